@@ -1,0 +1,47 @@
+-- A book in memory.
+--   rooms b        what its lists have room for
+--   contained b    what it contains
+--   Stores         one cell was written where a call was granted, and none where it was refused
+--   with-..        a book with another list in the place of one of its own
+use mathlib.Core.Path.{_≡_}
+use mathlib.Core.List.{List, map}
+use Prim.Native.Nat.{ℕ}
+use Rattle.std.specs.Results.{isOk}
+use Rattle.std.specs.declared.result.Result.{Result}
+use Rattle.elements.specs.declared.point.Point.{Point}
+use Rattle.elements.specs.declared.point.Pair.{Pair}
+use Rattle.elements.specs.declared.row.Row.{Row}
+use Rattle.elements.specs.Cells.{added}
+use Rattle.elements.specs.Contents.{Contents, contents}
+use Rattle.elements.specs.Rows.{held, room}
+use Rattle.book.specs.declared.book.Book.{Book}
+use Rattle.book.specs.Requests.{BookRooms}
+
+abbrev pub rooms : Book → BookRooms
+rooms b =
+    record { positions = room (b .attributes .positions)
+      ; colours = room (b .attributes .colours)
+      ; textures = room (b .attributes .textures)
+      ; normals = room (b .attributes .normals)
+      ; corners = room (b .waiting .corners)
+      ; faces = room (b .waiting .faces) }
+
+abbrev pub contained : Book → Contents
+contained b = contents (b .attributes) (b .waiting)
+
+-- the cells of r, by the bits of what they hold, became those of s
+abbrev pub Stores : {X Y E : Type 0} → (X → List ℕ) → Result Y E → Row X → Row X → List ℕ → Type 0
+Stores bits answer r s x = map bits (held s) ≡ added (isOk answer) (map bits (held r)) (r .count) x
+
+module _ (b : Book) where
+  abbrev pub with-positions : Row Point → Book
+  with-positions r = record { attributes = record { positions = r; colours = b .attributes .colours; textures = b .attributes .textures; normals = b .attributes .normals }; waiting = b .waiting }
+
+  abbrev pub with-colours : Row Point → Book
+  with-colours r = record { attributes = record { positions = b .attributes .positions; colours = r; textures = b .attributes .textures; normals = b .attributes .normals }; waiting = b .waiting }
+
+  abbrev pub with-textures : Row Pair → Book
+  with-textures r = record { attributes = record { positions = b .attributes .positions; colours = b .attributes .colours; textures = r; normals = b .attributes .normals }; waiting = b .waiting }
+
+  abbrev pub with-normals : Row Point → Book
+  with-normals r = record { attributes = record { positions = b .attributes .positions; colours = b .attributes .colours; textures = b .attributes .textures; normals = r }; waiting = b .waiting }

@@ -1,0 +1,19 @@
+-- What is asked of a book.
+--   Request      a call with its arguments; its numbers may be NaN
+--   BookRooms    how many elements each list of a book has room for
+use Prim.Native.Nat.{ℕ}
+use lib.Ieee.{Float}
+
+pub data Request : Type 0 where
+  add-position : Float → Float → Float → Request
+  add-colour : Float → Float → Float → Request
+  add-texture : Float → Float → Request
+  add-normal : Float → Float → Float → Request
+
+pub record BookRooms : Type 0 where
+  pub positions : ℕ
+  pub colours : ℕ
+  pub textures : ℕ
+  pub normals : ℕ
+  pub corners : ℕ
+  pub faces : ℕ

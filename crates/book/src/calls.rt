@@ -1,0 +1,17 @@
+use elements::error::LoadError;
+
+// A call on a book, with its arguments.
+#[derive(Clone, Copy)]
+pub enum Call {
+    Position(f32, f32, f32),
+    Colour(f32, f32, f32),
+    Texture(f32, f32),
+    Normal(f32, f32, f32),
+}
+
+// What a call answered.
+#[derive(Clone, Copy)]
+pub enum Answer {
+    Done,
+    Refused(LoadError),
+}

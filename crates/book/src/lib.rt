@@ -1,0 +1,5 @@
+pub mod cells;
+pub mod book;
+pub mod calls;
+pub mod attribute;
+pub mod obey;

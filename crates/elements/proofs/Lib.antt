@@ -1,0 +1,3 @@
+pub mod CellFacts
+pub mod RowFacts
+pub mod FirstFacts

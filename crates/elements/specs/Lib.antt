@@ -1,0 +1,9 @@
+pub mod Checks
+pub mod Errors
+pub mod Bits
+pub mod Cells
+pub mod Rows
+pub mod First
+pub mod Corners
+pub mod Tiles
+pub mod Contents

@@ -1,0 +1,7 @@
+// Why a call was refused.
+#[derive(Clone, Copy, PartialEq, Eq, Debug)]
+pub enum LoadError {
+    NotANumber,
+    BadRecord,
+    BookFull,
+}

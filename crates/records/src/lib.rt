@@ -1,0 +1,5 @@
+pub mod record;
+mod word;
+pub mod layout;
+pub mod line;
+pub mod play;
