@@ -1,7 +1,9 @@
 -- Each call's rule keeps book and log in agreement, and so does every list of calls.
 use mathlib.Core.Path.{_≡_, refl, sym, ap, subst, _∙_}
 use mathlib.Core.List.{List, [], _∷_, _++_}
-use Prim.Native.Nat.{ℕ}
+use Prim.Native.Nat.{ℕ, _+_}
+use native.Mathlib.Omega.{arith}
+use Rattle.std.proofs.shelf.Lists.{length-push}
 use Rattle.std.specs.declared.option.Option.{Option}
 use Rattle.std.specs.declared.option.Option.the-variants.{Some, None}
 use Rattle.elements.specs.declared.error.LoadError.{LoadError}
@@ -12,17 +14,27 @@ use Rattle.book.specs.declared.calls.Answer.{Answer}
 use Rattle.book.specs.declared.calls.Answer.the-variants.{Done, Refused}
 use Rattle.book.specs.declared.calls.Call.{Call}
 use Rattle.book.specs.Asked.{request}
-use Rattle.book.specs.Requests.{Request, add-position, add-colour, add-texture, add-normal, BookRooms}
-use Rattle.book.specs.Rules.{checks, granted, Settled, Does}
-use Rattle.book.specs.History.{Happening, Past, blank, more, Reaches, Log, noted, logged, log, Agrees, History}
+use Rattle.book.specs.Requests.{Request, add-position, add-colour, add-texture, add-normal, add-face, BookRooms}
+use Rattle.book.specs.Rules.{checks, corners-read, granted, Settled, Does}
+use Rattle.book.specs.History.{Happening, Past, blank, more, Reaches, Log, face-told, noted, logged, log, Agrees, History}
 
 module _ (l : Log) (c : Contents) (h : Agrees l c) where
   -- what a granted request adds, it adds to both
   granted-agrees : (q : Request) → Agrees (noted l q) (granted c q)
-  granted-agrees (add-position x y z) = record { positions = ap (λ xs. xs ++ triple-bits x y z ∷ []) (h .positions); textures = h .textures; normals = h .normals }
-  granted-agrees (add-colour x y z) = record { positions = h .positions; textures = h .textures; normals = h .normals }
-  granted-agrees (add-texture u v) = record { positions = h .positions; textures = ap (λ xs. xs ++ double-bits u v ∷ []) (h .textures); normals = h .normals }
-  granted-agrees (add-normal x y z) = record { positions = h .positions; textures = h .textures; normals = ap (λ xs. xs ++ triple-bits x y z ∷ []) (h .normals) }
+  granted-agrees (add-position x y z) =
+      record { positions = ap (λ xs. xs ++ triple-bits x y z ∷ []) (h .positions); textures = h .textures; normals = h .normals; waiting = h .waiting; conserved = h .conserved }
+  granted-agrees (add-colour x y z) = record { positions = h .positions; textures = h .textures; normals = h .normals; waiting = h .waiting; conserved = h .conserved }
+  granted-agrees (add-texture u v) =
+      record { positions = h .positions; textures = ap (λ xs. xs ++ double-bits u v ∷ []) (h .textures); normals = h .normals; waiting = h .waiting; conserved = h .conserved }
+  granted-agrees (add-normal x y z) =
+      record { positions = h .positions; textures = h .textures; normals = ap (λ xs. xs ++ triple-bits x y z ∷ []) (h .normals); waiting = h .waiting; conserved = h .conserved }
+  granted-agrees (add-face text) =
+      let e : corners-read (c .sources) text ≡ face-told l text = cc (h .positions, h .textures, h .normals) in
+      let n = length-push (c .waiting) (corners-read (c .sources) text) in
+      let k = h .conserved in
+      record { positions = h .positions; textures = h .textures; normals = h .normals
+        ; waiting = ap (λ fs. fs ++ corners-read (c .sources) text ∷ []) (h .waiting) ∙ ap (λ f. l .waiting ++ f ∷ []) e
+        ; conserved = omega arith }
 
   settled-agrees : (v : Option LoadError) (q : Request) (a : Answer) (d : Contents) → Settled v c (granted c q) a d → Agrees (logged l q a) d
   settled-agrees None q a d r =
@@ -34,7 +46,7 @@ module _ (l : Log) (c : Contents) (h : Agrees l c) where
   agrees-more rs q a d r = settled-agrees (first (checks rs c q)) q a d r
 
 pub history : History
-history rs blank c e = subst (Agrees (log blank)) (sym e) (record { positions = refl; textures = refl; normals = refl })
+history rs blank c e = subst (Agrees (log blank)) (sym e) (record { positions = refl; textures = refl; normals = refl; waiting = refl; conserved = refl })
 history rs (more p h) c r = agrees-more (log p) (r .0) (history rs p (r .0) (r .1)) rs (h .asked) (h .answer) c (r .2)
 
 -- the rule of a call and its answer under other names

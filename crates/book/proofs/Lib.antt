@@ -1,2 +1,5 @@
 pub mod StoreFacts
+pub mod CornerFacts
+pub mod WaitFacts
+pub mod FaceFacts
 pub mod HistoryFacts

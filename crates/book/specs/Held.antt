@@ -2,18 +2,26 @@
 --   rooms b        what its lists have room for
 --   contained b    what it contains
 --   Stores         one cell was written where a call was granted, and none where it was refused
+--   Awaits         a face and its corners were written where a call was granted, and nothing where it was refused
 --   with-..        a book with another list in the place of one of its own
 use mathlib.Core.Path.{_≡_}
 use mathlib.Core.List.{List, map}
 use Prim.Native.Nat.{ℕ}
+use lib.ListN.{length, set}
+use Rattle.std.specs.declared.option.Option.{Option}
+use Rattle.std.specs.declared.option.Option.the-variants.{Some, None}
 use Rattle.std.specs.Results.{isOk}
 use Rattle.std.specs.declared.result.Result.{Result}
+use Rattle.elements.specs.declared.corner.VertexIndices.{VertexIndices}
+use Rattle.elements.specs.declared.error.LoadError.{LoadError}
+use Rattle.elements.specs.declared.waiting.Waiting.{Waiting}
 use Rattle.elements.specs.declared.point.Point.{Point}
 use Rattle.elements.specs.declared.point.Pair.{Pair}
 use Rattle.elements.specs.declared.row.Row.{Row}
 use Rattle.elements.specs.Cells.{added}
 use Rattle.elements.specs.Contents.{Contents, contents}
 use Rattle.elements.specs.Rows.{held, room}
+use Rattle.reading.specs.Face.{written}
 use Rattle.book.specs.declared.book.Book.{Book}
 use Rattle.book.specs.Requests.{BookRooms}
 
@@ -32,6 +40,14 @@ contained b = contents (b .attributes) (b .waiting)
 -- the cells of r, by the bits of what they hold, became those of s
 abbrev pub Stores : {X Y E : Type 0} → (X → List ℕ) → Result Y E → Row X → Row X → List ℕ → Type 0
 Stores bits answer r s x = map bits (held s) ≡ added (isOk answer) (map bits (held r)) (r .count) x
+
+-- the cells of the waiting faces w became those of v: the corners cs and one face over them came after the others
+abbrev pub Awaits : Option LoadError → Waiting → Waiting → List VertexIndices → Type 0
+Awaits None w v cs =
+    (held (v .corners) ≡ written cs (w .corners .count) (held (w .corners)))
+    × (held (v .faces) ≡ set (held (w .faces)) (w .faces .count) (record { start = w .corners .count; count = length cs }))
+Awaits (Some e) w v cs =
+    (held (v .corners) ≡ held (w .corners)) × (v .corners .count ≡ w .corners .count) × (v .faces ≡ w .faces)
 
 module _ (b : Book) where
   abbrev pub with-positions : Row Point → Book

@@ -1,4 +1,5 @@
 pub mod Requests
+pub mod Waits
 pub mod Held
 pub mod Rules
 pub mod Asked

@@ -1,6 +1,7 @@
 -- What is asked of a book.
---   Request      a call with its arguments; its numbers may be NaN
+--   Request      a call with its arguments; its numbers may be NaN, its text any bytes
 --   BookRooms    how many elements each list of a book has room for
+use mathlib.Core.List.{List}
 use Prim.Native.Nat.{ℕ}
 use lib.Ieee.{Float}
 
@@ -9,6 +10,7 @@ pub data Request : Type 0 where
   add-colour : Float → Float → Float → Request
   add-texture : Float → Float → Request
   add-normal : Float → Float → Float → Request
+  add-face : List ℕ → Request
 
 pub record BookRooms : Type 0 where
   pub positions : ℕ

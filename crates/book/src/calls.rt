@@ -2,11 +2,12 @@ use elements::error::LoadError;
 
 // A call on a book, with its arguments.
 #[derive(Clone, Copy)]
-pub enum Call {
+pub enum Call<'a> {
     Position(f32, f32, f32),
     Colour(f32, f32, f32),
     Texture(f32, f32),
     Normal(f32, f32, f32),
+    Face(&'a [u8]),
 }
 
 // What a call answered.

@@ -2,4 +2,5 @@ pub mod cells;
 pub mod book;
 pub mod calls;
 pub mod attribute;
+pub mod face;
 pub mod obey;

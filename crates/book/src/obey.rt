@@ -19,15 +19,16 @@ fn answer(result: Result<(), LoadError>) -> Answer
 }
 
 // One call on a book.
-pub fn obey(book: &mut Book, call: Call) -> Answer
+pub fn obey(book: &mut Book, call: Call<'_>) -> Answer
     ensures history { λ _. ⌜ History ⌝ }
     ensures rooms { λ _. ⌜ rooms-of (now (book .exit)) ≡ rooms-of (now (book .entry)) ⌝ }
-    ensures does { λ r. ⌜ Does (rooms-of (now (book .entry))) (contained (now (book .entry))) (request call) r (contained (now (book .exit))) ⌝ }
+    ensures does { λ r. ⌜ Does (rooms-of (now (book .entry))) (contained (now (book .entry))) (request (call .entry)) r (contained (now (book .exit))) ⌝ }
 {
     match call {
         Call::Position(x, y, z) => answer(book.position(x, y, z)),
         Call::Colour(x, y, z) => answer(book.colour(x, y, z)),
         Call::Texture(u, v) => answer(book.texture(u, v)),
         Call::Normal(x, y, z) => answer(book.normal(x, y, z)),
+        Call::Face(text) => answer(book.face(text)),
     }
 }

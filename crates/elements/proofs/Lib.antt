@@ -1,3 +1,4 @@
 pub mod CellFacts
 pub mod RowFacts
 pub mod FirstFacts
+pub mod TileFacts

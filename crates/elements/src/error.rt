@@ -2,6 +2,8 @@
 #[derive(Clone, Copy, PartialEq, Eq, Debug)]
 pub enum LoadError {
     NotANumber,
+    NotAscii,
+    FaceParseError,
     BadRecord,
     BookFull,
 }

@@ -10,6 +10,8 @@ impl LoadError {
     {
         match self {
             LoadError::NotANumber => 1,
+            LoadError::NotAscii => 2,
+            LoadError::FaceParseError => 3,
             LoadError::BadRecord => 5,
             LoadError::BookFull => 6,
         }
@@ -19,6 +21,8 @@ impl LoadError {
     fn meaning(self) -> &'static str {
         match self {
             LoadError::NotANumber => "a coordinate is not a number (NaN)",
+            LoadError::NotAscii => "the face text has a byte above 127",
+            LoadError::FaceParseError => "a corner of the face text is not of the form v/vt/vn, each a whole number of 64 bits or empty",
             LoadError::BadRecord => "the tape's next record breaks the tape's layout",
             LoadError::BookFull => "a list of the book has no cell left for what is to be added",
         }

@@ -15,7 +15,7 @@ use Rattle.elements.specs.declared.error.LoadError.the-variants.{BadRecord}
 use Rattle.elements.specs.Contents.{Contents}
 use Rattle.book.specs.declared.calls.Answer.{Answer}
 use Rattle.book.specs.declared.calls.Answer.the-variants.{Refused}
-use Rattle.book.specs.Requests.{Request, add-position, add-colour, add-texture, add-normal, BookRooms}
+use Rattle.book.specs.Requests.{Request, add-position, add-colour, add-texture, add-normal, add-face, BookRooms}
 use Rattle.book.specs.Rules.{Does}
 use Rattle.book.specs.History.{Past, more, Reaches, asks, answers-of, log, Agrees}
 use Rattle.book.proofs.HistoryFacts.{history}
@@ -52,7 +52,11 @@ kind-is bs (Texture u v) q a =
     let e : q ≡ add-texture u v = cc in let s = a .0 .0 in kind-at bs 3 0 (omega arith) (omega arith) (a .0 .1 .0) ∙ ap kind-number (sym e)
 kind-is bs (Normal x y z) q a =
     let e : q ≡ add-normal x y z = cc in let s = a .0 .0 in kind-at bs 4 0 (omega arith) (omega arith) (a .0 .1 .0) ∙ ap kind-number (sym e)
-kind-is bs (Face n) q a = let z : _≡_ {A = ℕ} 0 1 = cc in absurd (omega arith)
+kind-is bs (Face n) q a =
+    let e : q ≡ add-face (take n (drop 4 bs)) = cc in
+    let s = a .0 .0 in
+    let m = a .0 .1 .1 in
+    kind-at bs 5 n (omega arith) (omega arith) (a .0 .1 .0) ∙ ap kind-number (sym e)
 kind-is bs (Export o) q a = let z : _≡_ {A = ℕ} 0 1 = cc in absurd (omega arith)
 
 -- in the midst of playing: the requests so far stand before the rest, and each has its line

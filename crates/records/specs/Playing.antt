@@ -1,5 +1,5 @@
 -- What playing a tape on a book does.
---   heard r          what the record r asks of the book, if its call is known
+--   heard bs r       what the record r, which begins bs, asks of the book, if its call is known
 --   Recorded         these records stand on the tape one after the other, and then the rest
 --   report rs as     a line for each record, with its kind and its answer
 --   Ended            why playing stopped: nothing was left, or what was left is no record, or no line was left to write
@@ -8,31 +8,31 @@ use mathlib.Core.Path.{_≡_}
 use mathlib.Core.Logic.{_⊎_}
 use mathlib.Core.List.{List, [], _∷_, _++_}
 use Prim.Native.Nat.{ℕ, _<_, _≤_}
-use lib.ListN.{length, drop}
+use lib.ListN.{length, take, drop}
 use Rattle.std.specs.declared.option.Option.{Option}
 use Rattle.std.specs.declared.option.Option.the-variants.{Some, None}
 use Rattle.elements.specs.declared.error.LoadError.the-variants.{BadRecord}
 use Rattle.elements.specs.Contents.{Contents}
 use Rattle.book.specs.declared.calls.Answer.{Answer}
 use Rattle.book.specs.declared.calls.Answer.the-variants.{Refused}
-use Rattle.book.specs.Requests.{Request, add-position, add-colour, add-texture, add-normal, BookRooms}
+use Rattle.book.specs.Requests.{Request, add-position, add-colour, add-texture, add-normal, add-face, BookRooms}
 use Rattle.book.specs.History.{Past, Reaches, asks, answers-of, log, Agrees}
 use Rattle.records.specs.declared.record.Record.{Record}
 use Rattle.records.specs.declared.record.Record.the-variants.{Position, Colour, Texture, Normal, Face, Export}
 use Rattle.records.specs.declared.line.Line.{Line}
 use Rattle.records.specs.Layout.{kind-of, size, Stands}
 
-abbrev pub heard : Record → Option Request
-heard (Position x y z) = Some (add-position x y z)
-heard (Colour x y z) = Some (add-colour x y z)
-heard (Texture u v) = Some (add-texture u v)
-heard (Normal x y z) = Some (add-normal x y z)
-heard (Face n) = None
-heard (Export o) = None
+abbrev pub heard : List ℕ → Record → Option Request
+heard bs (Position x y z) = Some (add-position x y z)
+heard bs (Colour x y z) = Some (add-colour x y z)
+heard bs (Texture u v) = Some (add-texture u v)
+heard bs (Normal x y z) = Some (add-normal x y z)
+heard bs (Face n) = Some (add-face (take n (drop 4 bs)))
+heard bs (Export o) = None
 
 -- the record r begins bs and asks q
 abbrev pub Asks : List ℕ → Record → Request → Type 0
-Asks bs r q = Stands bs r × (heard r ≡ Some q)
+Asks bs r q = Stands bs r × (heard bs r ≡ Some q)
 
 -- the requests qs stand on the tape, and then the rest
 abbrev pub Recorded : List ℕ → List Request → List ℕ → Type 0
@@ -44,6 +44,7 @@ kind-number (add-position x y z) = 1
 kind-number (add-colour x y z) = 2
 kind-number (add-texture u v) = 3
 kind-number (add-normal x y z) = 4
+kind-number (add-face text) = 5
 
 abbrev pub report : List Request → List Answer → List Line
 report [] answers = []

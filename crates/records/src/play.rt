@@ -18,28 +18,34 @@ use book::calls::Call;
 use book::obey::obey;
 use elements::error::LoadError;
 
-// The call that a record asks for.
-fn call_of(found: Record) -> Option<Call>
-    ensures { λ r. ⌜ mapped request r ≡ heard found ⌝ }
+// The call that a record asks for, where it begins the tape.
+fn call_of<'a>(found: Record, tape: &'a [u8]) -> Option<Call<'a>>
+    requires { ⌜ bytes-of found ≤ length (now tape) ⌝ }
+    ensures { λ r. ⌜ mapped request r ≡ heard (now (tape .entry)) found ⌝ }
 {
     match found {
         Record::Position(x, y, z) => Some(Call::Position(x, y, z)),
         Record::Colour(x, y, z) => Some(Call::Colour(x, y, z)),
         Record::Texture(u, v) => Some(Call::Texture(u, v)),
         Record::Normal(x, y, z) => Some(Call::Normal(x, y, z)),
-        Record::Face(_) | Record::Export(_) => None,
+        Record::Face(bytes) => {
+            let (_, after) = tape.split_at(4);
+            let (text, _) = after.split_at(usize::from(bytes));
+            Some(Call::Face(text))
+        }
+        Record::Export(_) => None,
     }
 }
 
 // The call that begins here, and the bytes after its record.
-fn next(tape: &[u8]) -> Option<(Call, &[u8])>
+fn next<'a>(tape: &'a [u8]) -> Option<(Call<'a>, &'a [u8])>
     ensures { λ r. ⌜ BySome r ((x : Record) (q : Request) → Asks (now (tape .entry)) x q → ⊥)
         (λ n. (x : Record) × Asks (now (tape .entry)) x (request (n .0)) × (now (n .1) ≡ drop (bytes-of x) (now (tape .entry))) × (length (now (n .1)) < length (now (tape .entry)))) ⌝ }
 {
     let Some(record) = read(tape) else {
         return None;
     };
-    let Some(call) = call_of(record) else {
+    let Some(call) = call_of(record, tape) else {
         return None;
     };
     let (_, rest) = tape.split_at(record.size());

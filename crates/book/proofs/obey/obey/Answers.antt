@@ -21,3 +21,8 @@ pub returns-in-Normal : need.returns-in-Normal
 returns-in-Normal c =
     record { history = history; rooms = c .normal .ensures .rooms
       ; does = obeyed (rooms (c .args .book .now)) (contained (c .args .book .now)) _ (c .args .call) _ (c .answer-in-Normal .result) _ (c .in-Normal .is) (c .answer-in-Normal .ensures) (c .normal .ensures .does) }
+
+pub returns-in-Face : need.returns-in-Face
+returns-in-Face c =
+    record { history = history; rooms = c .face .ensures .rooms
+      ; does = obeyed (rooms (c .args .book .now)) (contained (c .args .book .now)) _ (c .args .call) _ (c .answer-in-Face .result) _ (c .in-Face .is) (c .answer-in-Face .ensures) (c .face .ensures .does) }
