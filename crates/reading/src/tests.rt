@@ -61,13 +61,13 @@ fn texts() -> Result<(), Fail> {
 
 #[test]
 fn cells() -> Result<(), Fail> {
-    let cases: [(&[u8], usize, bool, [usize; 3]); 6] = [
-        (b" 1 -1 ", 1, true, [7, 0, 2]),
-        (b"1 2 3", 0, true, [0, 1, 2]),
-        (b"3 3", 2, false, [7, 7, 7]),
-        (b"3 +", 0, false, [7, 7, 7]),
-        (b"", 3, true, [7, 7, 7]),
-        (b"", 4, false, [7, 7, 7]),
+    let cases: [(&[u8], usize, Option<usize>, [usize; 3]); 6] = [
+        (b" 1 -1 ", 1, Some(2), [7, 0, 2]),
+        (b"1 2 3", 0, Some(3), [0, 1, 2]),
+        (b"3 3", 2, None, [7, 7, 7]),
+        (b"3 +", 0, None, [7, 7, 7]),
+        (b"", 3, Some(0), [7, 7, 7]),
+        (b"", 4, None, [7, 7, 7]),
     ];
     for (text, start, granted, after) in cases {
         let mut cells = [VertexIndices { v: 7, vt: 7, vn: 7 }; 3];
