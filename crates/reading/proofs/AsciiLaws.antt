@@ -1,4 +1,4 @@
-use mathlib.Core.Path.{_≡_, refl, sym, ap, subst, _∙_}
+use mathlib.Core.Path.{_≡_, refl, sym, ap, _∙_}
 use mathlib.Core.List.{List, [], _∷_, map}
 use mathlib.Core.Bool.{Bool, true, false, cond, _&&_}
 use Prim.Native.Nat.{ℕ, zero, suc, _+_, _^_, _≤_, _<_}
@@ -6,7 +6,7 @@ use native.Mathlib.Omega.{arith}
 use lib.Dec.{leb, ltb, eqb}
 use lib.IntN.{ℤ, pos, negℤ}
 use lib.ListN.{length, getD, drop}
-use Rattle.std.proofs.shelf.Tests.{and-parts, and-from, le-leb, leb-true, eqb-true, false≢true, both-ways, cases-bool}
+use Rattle.std.proofs.shelf.Tests.{and-parts, and-from, le-leb, leb-true, leb-false, eqb-true, false≢true, both-ways, cases-bool}
 use Rattle.std.proofs.shelf.Lists.{at-drop-more, at-drop-all}
 use mathlib.Core.Logic.{⊎-elim}
 use Rattle.std.proofs.shelf.Ways.{tells}
@@ -15,9 +15,9 @@ use Rattle.std.specs.declared.option.Option.{Option}
 use Rattle.std.specs.declared.option.Option.the-variants.{Some, None}
 use Rattle.elements.specs.declared.corner.VertexIndices.{VertexIndices}
 use Rattle.reading.specs.declared.counts.Counts.{Counts}
-use Rattle.reading.specs.Ascii.{ascii}
+use Rattle.reading.specs.Ascii.{plain, ascii}
 use Rattle.reading.specs.Value.{digit, digits, numeral, number, signed, value, reference}
-use Rattle.reading.specs.Pieces.{Stretch, whole, onto, pieces, stretches, unlessEmpty, filled, space, slash, tokensFrom, tokens, partsFrom, parts, none, vacant}
+use Rattle.reading.specs.Pieces.{Stretch, whole, onto, pieces, stretches, unlessEmpty, filled, space, slash, tokens, parts, none, vacant}
 use Rattle.reading.specs.Corner.{place, placeOf, indices, cornerOf, corner}
 use Rattle.reading.specs.Face.{all, corners, face}
 use Rattle.reading.specs.Laws.{OnlyAscii}
@@ -39,7 +39,7 @@ numeral-ascii : (cs : List ℕ) → numeral cs ≡ true → ascii cs ≡ true
 numeral-ascii [] h = refl
 numeral-ascii (c ∷ cs) h = digits-ascii (c ∷ cs) h
 
-signed-by : (sign : ℕ → ℤ) (cs : List ℕ) (b t : Bool) → numeral cs ≡ b → isSome (cond (b && t) (Some (sign (number cs))) None) ≡ true → ascii cs ≡ true
+signed-by : (sign : ℕ → ℤ) (cs : List ℕ) (b t : Bool) → numeral cs ≡ b → isSome (mapped sign (cond (b && t) (Some (number cs)) None)) ≡ true → ascii cs ≡ true
 signed-by sign cs true t e h = numeral-ascii cs e
 signed-by sign cs false t e h = absurd (false≢true h)
 
@@ -178,11 +178,11 @@ not-ascii-at cs i l h = ⊎-elim (λ (a : ascii cs ≡ true). absurd (omega (ari
 -- the bytes one by one
 
 module _ (xs : List ℕ) (i : ℕ) where
-  pub ascii-stop : i < length xs → 127 < getD xs i 0 → false ≡ ascii xs
-  ascii-stop l h = sym (not-ascii-at xs i l h)
+  pub ascii-stop : i < length xs → plain (getD xs i 0) ≡ false → false ≡ ascii xs
+  ascii-stop l h = sym (not-ascii-at xs i l (leb-false (getD xs i 0) 127 h))
 
-  pub ascii-go : i < length xs → ascii (drop i xs) ≡ ascii xs → getD xs i 0 ≤ 127 → ascii (drop (i + 1) xs) ≡ ascii xs
-  ascii-go l h e = sym (at-drop-more ascii xs i 0 l ∙ ap (λ b. b && ascii (drop (i + 1) xs)) (le-leb (getD xs i 0) 127 e)) ∙ h
+  pub ascii-go : i < length xs → ascii (drop i xs) ≡ ascii xs → plain (getD xs i 0) ≡ true → ascii (drop (i + 1) xs) ≡ ascii xs
+  ascii-go l h e = sym (at-drop-more ascii xs i 0 l ∙ ap (λ b. b && ascii (drop (i + 1) xs)) e) ∙ h
 
   pub ascii-end : length xs ≤ i → ascii (drop i xs) ≡ ascii xs → true ≡ ascii xs
   ascii-end l h = sym (at-drop-all ascii xs i l) ∙ h

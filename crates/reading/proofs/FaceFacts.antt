@@ -1,11 +1,10 @@
-use mathlib.Core.Path.{_≡_, refl, sym, ap, subst, _∙_}
+use mathlib.Core.Path.{_≡_, refl, sym, ap, _∙_}
 use mathlib.Core.List.{List, [], _∷_, _++_, map}
 use mathlib.Core.Bool.{Bool, true, false, cond}
-use Prim.Native.Nat.{ℕ, _+_, _≤_, _<_}
+use Prim.Native.Nat.{ℕ, _+_, _<_}
 use native.Mathlib.Omega.{arith}
-use lib.Dec.{leb}
 use lib.ListN.{length, getD, take, drop, set}
-use Rattle.std.proofs.shelf.Lists.{append-nil, append-assoc, length-append, length-push, length-take-le, drop-more, set-at, take-append-drop}
+use Rattle.std.proofs.shelf.Lists.{append-assoc, length-append, length-push, length-take-le, drop-more, set-at, take-append-drop}
 use Rattle.std.proofs.shelf.Tests.{leb-true, false≢true}
 use Rattle.std.specs.Options.{mapped, isSome}
 use Rattle.std.specs.declared.option.Option.{Option}
@@ -15,7 +14,7 @@ use Rattle.reading.specs.declared.counts.Counts.{Counts}
 use Rattle.reading.specs.Value.{value, reference}
 use Rattle.reading.specs.Pieces.{Stretch, whole, parts, vacant, tokens}
 use Rattle.reading.specs.Corner.{place, indices, corner}
-use Rattle.reading.specs.Face.{all, corners, face, fits, written, Stored}
+use Rattle.reading.specs.Face.{all, corners, face, roomFor, written}
 
 -- whether a token reads does not depend on the counts
 
@@ -47,9 +46,9 @@ pub reads-alike : (m n : Counts) (token : Stretch) → isSome (corner m token) �
 reads-alike m n token =
     some-cond (vacant (drop 3 (parts token))) _ _
     (some-indices _ _ _ _ _ _
-        (some-place (m .positions) (n .positions) (getD (parts token) 0 (whole []) .bytes))
-        (some-place (m .textures) (n .textures) (getD (parts token) 1 (whole []) .bytes))
-        (some-place (m .normals) (n .normals) (getD (parts token) 2 (whole []) .bytes)))
+    (some-place (m .positions) (n .positions) (getD (parts token) 0 (whole []) .bytes))
+    (some-place (m .textures) (n .textures) (getD (parts token) 1 (whole []) .bytes))
+    (some-place (m .normals) (n .normals) (getD (parts token) 2 (whole []) .bytes)))
 
 -- the tokens one by one
 
@@ -117,7 +116,7 @@ written-push ds start old c l =
     ∙ (ap (λ zs. take start old ++ zs) (sym (append-assoc ds (c ∷ []) ys))
     ∙ ap (λ j. take start old ++ ((ds ++ c ∷ []) ++ drop j old)) (omega (arith, length-push ds c))))))
 
-room-for : (ds : List VertexIndices) (c : VertexIndices) (o : Option (List VertexIndices)) (start room : ℕ) → fits (after ds (mapped (λ cs. c ∷ cs) o)) start room ≡ true → start + length ds < room
+room-for : (ds : List VertexIndices) (c : VertexIndices) (o : Option (List VertexIndices)) (start room : ℕ) → roomFor (after ds (mapped (λ cs. c ∷ cs) o)) start room ≡ true → start + length ds < room
 room-for ds c None start room h = absurd (false≢true h)
 room-for ds c (Some cs) start room h = omega (arith, leb-true (start + length (ds ++ c ∷ cs)) room h, length-append ds (c ∷ cs))
 
@@ -133,12 +132,12 @@ module _ (n : Counts) (text : List ℕ) (start : ℕ) (old : List VertexIndices)
   writing-none = record { done = []; here = omega arith; reads = after-none (face n text); cells-are = written-none start old }
 
   module _ (rest : List Stretch) (cells : List VertexIndices) (next : ℕ) (w : Writing n text start old rest cells next) where
-    pub writing-room : (t : Stretch) (us : List Stretch) (c : VertexIndices) → rest ≡ t ∷ us → corner n t ≡ Some c → fits (face n text) start (length old) ≡ true → next < length old
+    pub writing-room : (t : Stretch) (us : List Stretch) (c : VertexIndices) → rest ≡ t ∷ us → corner n t ≡ Some c → roomFor (face n text) start (length old) ≡ true → next < length old
     writing-room t us c e h f =
-        let g = ap (λ o. fits o start (length old)) (w .reads ∙ ap (after (w .done)) (corners-more n rest t us c e h)) in
+        let g = ap (λ o. roomFor o start (length old)) (w .reads ∙ ap (after (w .done)) (corners-more n rest t us c e h)) in
         omega (arith, w .here, room-for (w .done) c (corners n us) start (length old) (sym g ∙ f))
 
-    pub writing-more : (t : Stretch) (us : List Stretch) (c : VertexIndices) → rest ≡ t ∷ us → corner n t ≡ Some c → fits (face n text) start (length old) ≡ true → Writing n text start old us (set cells next c) (next + 1)
+    pub writing-more : (t : Stretch) (us : List Stretch) (c : VertexIndices) → rest ≡ t ∷ us → corner n t ≡ Some c → roomFor (face n text) start (length old) ≡ true → Writing n text start old us (set cells next c) (next + 1)
     writing-more t us c e h f =
         let r = writing-room t us c e h f in
         record {
@@ -147,16 +146,10 @@ module _ (n : Counts) (text : List ℕ) (start : ℕ) (old : List VertexIndices)
           reads = w .reads ∙ (ap (after (w .done)) (corners-more n rest t us c e h) ∙ after-push (w .done) c (corners n us));
           cells-are =
               ap (λ zs. set zs next c) (w .cells-are)
-              ∙ (ap (λ k. set (written (w .done) start old) k c) (w .here) ∙ written-push (w .done) start old c (omega (arith, w .here, r)))
+              ∙ (ap (λ k. set (written (w .done) start old) k c) (w .here) ∙ written-push (w .done) start old c (omega (arith, w .here, r)));
         }
 
-    pub writing-stuck : (t : Stretch) (us : List Stretch) → rest ≡ t ∷ us → corner n t ≡ None → fits (face n text) start (length old) ≡ true → ⊥
+    pub writing-stuck : (t : Stretch) (us : List Stretch) → rest ≡ t ∷ us → corner n t ≡ None → roomFor (face n text) start (length old) ≡ true → ⊥
     writing-stuck t us e h f =
-        let g = ap (λ o. fits o start (length old)) (w .reads ∙ ap (after (w .done)) (corners-none n rest t us e h)) in
+        let g = ap (λ o. roomFor o start (length old)) (w .reads ∙ ap (after (w .done)) (corners-none n rest t us e h)) in
         false≢true (sym g ∙ f)
-
-    pub writing-all : rest ≡ [] → Stored (face n text) start old cells
-    writing-all e xs h =
-        let s : face n text ≡ Some (w .done) = w .reads ∙ (ap (λ ts. after (w .done) (corners n ts)) e ∙ ap Some (append-nil (w .done))) in
-        let z : w .done ≡ xs = cc in
-        w .cells-are ∙ ap (λ zs. written zs start old) z

@@ -1,14 +1,13 @@
-use mathlib.Core.Path.{_≡_, refl, sym, ap, subst, _∙_}
+use mathlib.Core.Path.{_≡_, sym, ap, _∙_}
 use mathlib.Core.List.{List, [], _∷_}
-use mathlib.Core.Bool.{Bool, true, false, cond}
+use mathlib.Core.Bool.{true, cond}
 use Prim.Native.Nat.{ℕ, _+_, _≤_, _<_}
-use native.Mathlib.Omega.{arith}
 use lib.Dec.{ltb}
-use lib.ListN.{length, getD, take, drop}
+use lib.ListN.{length, take, drop}
 use denote.Ref.{now}
 use Rattle.std.proofs.shelf.Lists.{length-take-le}
 use Rattle.std.proofs.shelf.Tests.{lt-ltb, le-ltb, cond-true, cond-false}
-use Rattle.std.specs.declared.option.Option.the-variants.{Some, None}
+use Rattle.std.specs.declared.option.Option.the-variants.{Some}
 use Rattle.reading.specs.declared.reader.Part.{Part}
 use Rattle.reading.specs.declared.reader.Parts.{Parts}
 use Rattle.reading.specs.Pieces.{Stretch, pieces, stretches, partsFrom, slash}
@@ -19,9 +18,6 @@ Splits xs n = pieces slash xs ≡ take n xs ∷ cond (ltb n (length xs)) (pieces
 
 pub left-open : (s : Parts) → s .more ≡ true → left s ≡ partsFrom (s .at) (now (s .rest))
 left-open s on = cond-true (s .more) (partsFrom (s .at) (now (s .rest))) [] on
-
-pub left-shut : (s : Parts) → s .more ≡ false → left s ≡ []
-left-shut s off = cond-false (s .more) (partsFrom (s .at) (now (s .rest))) [] off
 
 -- the first of the parts that are left is n bytes long
 module _ (s : Parts) (n : ℕ) (on : s .more ≡ true) (within : n ≤ length (now (s .rest))) (first : Splits (now (s .rest)) n) where

@@ -1,8 +1,8 @@
 use mathlib.Core.Path.{_≡_, refl, sym, ap, subst, _∙_}
 use mathlib.Core.List.{List, [], _∷_}
-use mathlib.Core.Bool.{Bool, true, false, cond}
+use mathlib.Core.Bool.{true, false, cond}
 use mathlib.Core.Logic.{⊎-elim}
-use Prim.Native.Nat.{ℕ, zero, suc, _+_, _-_, _≤_, _<_}
+use Prim.Native.Nat.{ℕ, _+_, _≤_, _<_}
 use native.Mathlib.Omega.{arith}
 use lib.Dec.{ltb}
 use lib.ListN.{length, getD, take, drop}
@@ -32,9 +32,9 @@ module _ (i : ℕ) (xs : List ℕ) (n : ℕ) (within : n ≤ length xs) (stopped
   rest-is =
       ⊎-elim
       (λ l. ap (λ ps. filled (stretches (i + n + 1) ps)) (cond-true (ltb n (length xs)) (pieces space (drop (n + 1) xs)) [] (lt-ltb n (length xs) l))
-          ∙ sym (at-drop-more (tokensFrom (i + n)) xs n 0 l ∙ tokens-space (i + n) (getD xs n 0) (drop (n + 1) xs) (stopped l)))
+      ∙ sym (at-drop-more (tokensFrom (i + n)) xs n 0 l ∙ tokens-space (i + n) (getD xs n 0) (drop (n + 1) xs) (stopped l)))
       (λ l. ap (λ ps. filled (stretches (i + n + 1) ps)) (cond-false (ltb n (length xs)) (pieces space (drop (n + 1) xs)) [] (le-ltb n (length xs) l))
-          ∙ sym (at-drop-all (tokensFrom (i + n)) xs n l))
+      ∙ sym (at-drop-all (tokensFrom (i + n)) xs n l))
       (cases-lt n (length xs))
 
   abbrev here : Stretch
@@ -45,13 +45,13 @@ module _ (i : ℕ) (xs : List ℕ) (n : ℕ) (within : n ≤ length xs) (stopped
       ap (λ ps. filled (stretches i ps)) first
       ∙ (keep-cons here (take n xs) _ (omega (arith, length-take-le n xs within))
       ∙ ap (λ z. here ∷ z)
-          (ap (λ k. filled (stretches (i + k + 1) (cond (ltb n (length xs)) (pieces space (drop (n + 1) xs)) []))) (length-take-le n xs within) ∙ rest-is))
+      (ap (λ k. filled (stretches (i + k + 1) (cond (ltb n (length xs)) (pieces space (drop (n + 1) xs)) []))) (length-take-le n xs within) ∙ rest-is))
 
   pub some-byte : 0 < length xs → space (getD xs 0 0) ≡ false → 0 < n
   some-byte l h =
       ⊎-elim (λ p. p)
       (λ (z : n ≤ 0). let e : n ≡ 0 = omega arith in
-          absurd (both-ways (space (getD xs 0 0)) h (subst (λ k. space (getD xs k 0) ≡ true) e (stopped (omega arith)))))
+      absurd (both-ways (space (getD xs 0 0)) h (subst (λ k. space (getD xs k 0) ≡ true) e (stopped (omega arith)))))
       (cases-lt 0 n)
 
 pub space-at : (xs : List ℕ) (k : ℕ) (ys : List ℕ) → ys ≡ drop k xs → 0 < length ys → (k < length xs → space (getD xs k 0) ≡ false) → space (getD ys 0 0) ≡ false

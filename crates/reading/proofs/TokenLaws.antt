@@ -1,13 +1,13 @@
 use mathlib.Core.Path.{_≡_, refl, sym, ap, subst, _∙_}
 use mathlib.Core.List.{List, [], _∷_, _++_}
-use mathlib.Core.Bool.{Bool, true, false, cond, not, _&&_}
-use Prim.Native.Nat.{ℕ, suc, _+_, _≤_, _<_}
+use mathlib.Core.Bool.{Bool, true, false, cond, not}
+use Prim.Native.Nat.{ℕ, _+_, _<_}
 use native.Mathlib.Omega.{arith}
 use lib.ListN.{length, getD, drop}
 use Rattle.std.proofs.shelf.Lists.{append-nil, nil-from-length}
-use Rattle.std.proofs.shelf.Tests.{cond-true, cond-false, and-parts, and-from, not-from-false, not-true, both-ways, true≢false}
-use Rattle.reading.specs.Pieces.{Stretch, onto, pieces, stretches, filled, unlessEmpty, space, tokensFrom, tokens}
-use Rattle.reading.specs.Laws.{blank, uncut, ended, First, Laid, Rejoined}
+use Rattle.std.proofs.shelf.Tests.{cond-true, cond-false, and-parts, and-from, not-from-false, not-true}
+use Rattle.reading.specs.Pieces.{Stretch, onto, pieces, stretches, filled, space, tokensFrom, tokens}
+use Rattle.reading.specs.Laws.{blank, uncut, ended, Laid, Rejoined}
 use Rattle.reading.proofs.TokenFacts.{tokens-space, keep-cons}
 
 -- a text is its tokens
@@ -28,7 +28,7 @@ laid-space i c cs (t ∷ ts) s h =
       some = h .some;
       solid = h .solid;
       longest = h .longest;
-      others = h .others
+      others = h .others;
     }
 
 -- the first piece of a text says how the text begins
@@ -63,7 +63,7 @@ laid-word i c cs [] s e h =
       some = omega arith;
       solid = solid-one c s;
       longest = blank-ended cs h;
-      others = h
+      others = h;
     }
 laid-word i c cs ([] ∷ ps) s e h =
     record {
@@ -75,7 +75,7 @@ laid-word i c cs ([] ∷ ps) s e h =
       some = omega arith;
       solid = solid-one c s;
       longest = first-empty cs ps e;
-      others = laid-at (i + 1) _ cs _ _ refl (ap (λ k. filled (stretches k ps)) (omega arith)) h
+      others = laid-at (i + 1) _ cs _ _ refl (ap (λ k. filled (stretches k ps)) (omega arith)) h;
     }
 laid-word i c cs ((d ∷ p) ∷ ps) s e h =
     let z : h .gap ≡ [] = nil-from-length (h .gap) (omega (arith, h .place)) in
@@ -88,7 +88,7 @@ laid-word i c cs ((d ∷ p) ∷ ps) s e h =
       some = omega arith;
       solid = and-from (not (space c)) (uncut space (d ∷ p)) (not-from-false (space c) s) (h .solid);
       longest = h .longest;
-      others = laid-at (i + 1 + length (d ∷ p)) _ (h .rest) _ _ (omega arith) (ap (λ k. filled (stretches k ps)) (omega arith)) (h .others)
+      others = laid-at (i + 1 + length (d ∷ p)) _ (h .rest) _ _ (omega arith) (ap (λ k. filled (stretches k ps)) (omega arith)) (h .others);
     }
 
 laid-by : (i c : ℕ) (cs : List ℕ) (b : Bool) → space c ≡ b → Laid (i + 1) cs (tokensFrom (i + 1) cs) → Laid i (c ∷ cs) (tokensFrom i (c ∷ cs))
@@ -128,7 +128,7 @@ tokens-word i w rest l u h =
     ap (λ ps. filled (stretches i ps)) (pieces-word w rest u h)
     ∙ (keep-cons (record { from = i; bytes = w }) w (filled (stretches (i + length w + 1) (drop 1 (pieces space rest)))) l
     ∙ ap (λ zs. record { from = i; bytes = w } ∷ zs)
-        (ap (λ k. filled (stretches k (drop 1 (pieces space rest)))) (omega arith) ∙ sym (ap (λ ps. filled (stretches (i + length w) ps)) (pieces-ended rest h))))
+    (ap (λ k. filled (stretches k (drop 1 (pieces space rest)))) (omega arith) ∙ sym (ap (λ ps. filled (stretches (i + length w) ps)) (pieces-ended rest h))))
 
 laid-only : (ts : List Stretch) (i : ℕ) (text : List ℕ) → Laid i text ts → ts ≡ tokensFrom i text
 laid-only [] i text h = sym (ap (tokensFrom i) (sym (append-nil text)) ∙ tokens-gap text i [] h)

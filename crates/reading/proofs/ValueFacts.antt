@@ -1,10 +1,9 @@
-use mathlib.Core.Path.{_≡_, refl, sym, ap, _∙_}
+use mathlib.Core.Path.{_≡_, refl, sym, _∙_}
 use mathlib.Core.List.{List, [], _∷_}
-use mathlib.Core.Bool.{Bool, true, false}
-use Prim.Native.Nat.{ℕ, _+_, _-_, _*_, _^_, _≤_, _<_}
+use mathlib.Core.Bool.{true, false}
+use Prim.Native.Nat.{ℕ, _+_, _-_, _*_, _≤_, _<_}
 use native.Mathlib.Omega.{arith}
-use borrow.Author.Needs.{needs}
-use lib.Dec.{ltb, leb}
+use lib.Dec.{ltb}
 use lib.ListN.{length, getD, drop}
 use Rattle.std.proofs.shelf.Lists.{at-drop-more, at-drop-all}
 use Rattle.std.proofs.shelf.Tests.{lt-ltb}
@@ -18,10 +17,6 @@ numeral-false (c ∷ cs) h = sym h
 numeral-true : (cs : List ℕ) → digits cs ≡ true → ltb 0 (length cs) ≡ numeral cs
 numeral-true [] h = refl
 numeral-true (c ∷ cs) h = lt-ltb 0 (length (c ∷ cs)) (omega arith) ∙ sym h
-
-pub digits-from-numeral : (cs : List ℕ) → numeral cs ≡ true → digits cs ≡ true
-digits-from-numeral [] h = refl
-digits-from-numeral (c ∷ cs) h = h
 
 numberAfter-ge : (n : ℕ) (cs : List ℕ) → n ≤ numberAfter n cs
 numberAfter-ge n [] = omega arith

@@ -1,22 +1,21 @@
-use mathlib.Core.Path.{_≡_, refl, sym, ap, _∙_}
-use mathlib.Core.List.{List, [], _∷_, reverse}
-use mathlib.Core.Bool.{Bool, true, false, cond, _&&_}
-use Prim.Native.Nat.{ℕ, zero, suc, _+_, _-_, _*_, _^_, _≤_, _<_}
+use mathlib.Core.Path.{_≡_, sym, ap, _∙_}
+use mathlib.Core.List.{List, [], _∷_}
+use mathlib.Core.Bool.{true, cond, _&&_}
+use Prim.Native.Nat.{ℕ, zero, suc, _+_, _-_, _^_, _≤_, _<_}
 use native.Mathlib.Omega.{arith}
 use borrow.Author.Needs.{needs}
 use lib.Dec.{ltb, leb, eqb}
 use lib.IntN.{ℤ, pos, negsuc, negℤ}
 use lib.ListN.{length, getD}
-use lib.Signed.{_≤ℤ_}
 use Rattle.std.specs.Written.{decimal}
 use Rattle.std.proofs.shelf.Numerals.{Numerals, numerals-by-fold}
 use Rattle.std.proofs.shelf.Decimals.{digits-decimal, value-decimal, decimal-some}
 use Rattle.std.proofs.shelf.Lists.{getD-reverse}
 use Rattle.std.proofs.shelf.Signed.{ints}
 use Rattle.std.proofs.shelf.Tests.{cond-true, cond-false, and-from, lt-ltb, le-leb, ne-eqb}
-use Rattle.std.specs.declared.option.Option.{Option}
+use Rattle.std.specs.Options.{mapped}
 use Rattle.std.specs.declared.option.Option.the-variants.{Some, None}
-use Rattle.reading.specs.Value.{digit, digits, numeral, numberAfter, number, signed, value, missing, reference}
+use Rattle.reading.specs.Value.{digits, numeral, numberAfter, number, signed, value, reference}
 use Rattle.reading.specs.Laws.{ReadsBack, Named}
 use Rattle.reading.proofs.ValueFacts.{first-digit}
 
@@ -31,8 +30,9 @@ numeral-from (c ∷ cs) h l = h
 
 signed-from : (sign : ℕ → ℤ) (limit : ℕ) (ds : List ℕ) → digits ds ≡ true → 0 < length ds → number ds < limit → signed sign limit ds ≡ Some (sign (number ds))
 signed-from sign limit ds h l b =
-    cond-true (numeral ds && ltb (number ds) limit) (Some (sign (number ds))) None
-    (and-from (numeral ds) (ltb (number ds) limit) (numeral-from ds h l) (lt-ltb (number ds) limit b))
+    ap (mapped sign)
+    (cond-true (numeral ds && ltb (number ds) limit) (Some (number ds)) None
+    (and-from (numeral ds) (ltb (number ds) limit) (numeral-from ds h l) (lt-ltb (number ds) limit b)))
 
 value-plain : (ds : List ℕ) → digits ds ≡ true → 0 < length ds → value ds ≡ signed pos (2 ^ 63) ds
 value-plain [] h l = absurd (omega arith)
@@ -61,7 +61,10 @@ pub named : Named
 named xs zero one most small = absurd (omega arith)
 named xs (suc j) one most small =
     let z : reference (length xs) (negsuc j) ≡ length xs - suc j = cond-true (leb (suc j) (length xs)) (length xs - suc j) (2 ^ 64 + length xs - suc j) (le-leb (suc j) (length xs) most) in
-    let k : suc j - 1 ≡ j = omega arith in
-    ((omega arith, ap (λ i. getD xs i 0) (sym k)),
-        (omega (arith, z),
-            ap (λ i. getD xs i 0) (z ∙ omega arith) ∙ sym (getD-reverse xs (suc j - 1) 0 (omega arith))))
+    let k : suc j - 1 ≡ j = omega arith in (
+      (omega arith, ap (λ i. getD xs i 0) (sym k)),
+      (
+        omega (arith, z),
+        ap (λ i. getD xs i 0) (z ∙ omega arith) ∙ sym (getD-reverse xs (suc j - 1) 0 (omega arith)),
+      ),
+    )

@@ -4,6 +4,9 @@ use mathlib.Core.Bool.{Bool, true, _&&_}
 use Prim.Native.Nat.{ℕ}
 use lib.Dec.{leb}
 
+abbrev pub plain : ℕ → Bool
+plain c = leb c 127
+
 abbrev pub ascii : List ℕ → Bool
 ascii [] = true
-ascii (c ∷ cs) = leb c 127 && ascii cs
+ascii (c ∷ cs) = plain c && ascii cs

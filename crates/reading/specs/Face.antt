@@ -28,11 +28,11 @@ abbrev pub face : Counts → List ℕ → Option (List VertexIndices)
 face n text = corners n (tokens text)
 
 -- whether there is a list, and it fits into so many cells from start on
-abbrev pub fits : {X : Type 0} → Option (List X) → ℕ → ℕ → Bool
-fits None start room = false
-fits (Some xs) start room = leb (start + length xs) room
+abbrev pub roomFor : {X : Type 0} → Option (List X) → ℕ → ℕ → Bool
+roomFor None start room = false
+roomFor (Some xs) start room = leb (start + length xs) room
 
--- how many were appended after the first start of a list with so much room, if there is something to append and it fits
+-- how many are appended after the first start of a list with so much room: all, if there are any to append and they fit
 abbrev pub appended : {X : Type 0} → Option (List X) → ℕ → ℕ → Option ℕ
 appended None start room = None
 appended (Some xs) start room = cond (leb (start + length xs) room) (Some (length xs)) None

@@ -1,7 +1,7 @@
 -- What the readers of tokens and parts hold: which stretch an answer is, and which are left.
 use mathlib.Core.Path.{_≡_}
 use mathlib.Core.List.{List, [], _∷_}
-use mathlib.Core.Bool.{Bool, true, false, cond}
+use mathlib.Core.Bool.{Bool, cond}
 use Prim.Native.Nat.{ℕ, _<_}
 use lib.ListN.{length, drop}
 use denote.Ref.{now}

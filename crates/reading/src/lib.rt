@@ -1,8 +1,8 @@
 pub mod counts;
-pub mod vertex;
 pub mod face;
+mod number;
 mod reader;
 mod split;
-mod number;
 #[cfg(test)]
 mod tests;
+pub mod vertex;

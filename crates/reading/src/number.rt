@@ -1,9 +1,10 @@
 ghost use mathlib.Core.Path.{_≡_};
 ghost use mathlib.Core.Bool.{true};
-ghost use Prim.Native.Nat.{ℕ, _+_, _<_, _^_};
+ghost use Prim.Native.Nat.{_+_, _<_, _^_};
 ghost use lib.IntN.{pos, negℤ};
 ghost use Rattle.std.specs.Numbers.{Checked};
-ghost use Rattle.reading.specs.Value.{value, signed, numeral, number, digit, digits as areDigits, reference as referTo};
+ghost use Rattle.std.specs.Options.{Cases};
+ghost use Rattle.reading.specs.Value.{value, below, signed, numeral, number, digit, digits as areDigits, reference as referTo};
 use elements::corner::MISSING_INDEX;
 
 fn is_digit(byte: u8) -> bool
@@ -42,28 +43,36 @@ fn magnitude(digits: &[u8]) -> Option<u64>
     Some(sum)
 }
 
-fn positive(digits: &[u8]) -> Option<i64>
-    ensures { λ r. ⌜ r ≡ signed pos (2 ^ 63) (now (digits .entry)) ⌝ }
+// The number that a numeral writes, if it is below the limit.
+fn number_below(digits: &[u8], limit: u64) -> Option<u64>
+    ensures value { λ r. ⌜ r ≡ below limit (now (digits .entry)) ⌝ }
+    ensures bound { λ r. ⌜ Cases r (Unit {0}) (λ n. n < limit) ⌝ }
 {
     if !is_numeral(digits) {
         return None;
     }
     match magnitude(digits) {
-        Some(size) if size < 1 << 63 => Some(size as i64),
+        Some(size) if size < limit => Some(size),
         _ => None,
+    }
+}
+
+fn positive(digits: &[u8]) -> Option<i64>
+    ensures { λ r. ⌜ r ≡ signed pos (2 ^ 63) (now (digits .entry)) ⌝ }
+{
+    match number_below(digits, 1 << 63) {
+        Some(size) => Some(size as i64),
+        None => None,
     }
 }
 
 fn negative(digits: &[u8]) -> Option<i64>
     ensures { λ r. ⌜ r ≡ signed (λ n. negℤ (pos n)) (2 ^ 63 + 1) (now (digits .entry)) ⌝ }
 {
-    if !is_numeral(digits) {
-        return None;
-    }
-    match magnitude(digits) {
+    match number_below(digits, (1 << 63) + 1) {
         Some(size) if size < 1 << 63 => Some(-(size as i64)),
-        Some(size) if size == 1 << 63 => Some(i64::MIN),
-        _ => None,
+        Some(_) => Some(i64::MIN),
+        None => None,
     }
 }
 
@@ -78,15 +87,15 @@ pub(crate) fn part_value(bytes: &[u8]) -> Option<i64>
     }
 }
 
-// What a number refers to in a list of so many.
-pub(crate) fn reference(value: i64, count: usize) -> usize
-    ensures { λ r. ⌜ r ≡ referTo count value ⌝ }
+// What a number refers to in a list of so many. A place before the first is not refused here: it wraps.
+pub(crate) fn reference(named: i64, count: usize) -> usize
+    ensures { λ r. ⌜ r ≡ referTo count named ⌝ }
 {
-    if value > 0 {
-        (value - 1) as usize
-    } else if value == 0 {
+    if named > 0 {
+        (named - 1) as usize
+    } else if named == 0 {
         MISSING_INDEX
     } else {
-        count.wrapping_sub(value.unsigned_abs() as usize)
+        count.wrapping_sub(named.unsigned_abs() as usize)
     }
 }

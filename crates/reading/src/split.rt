@@ -1,11 +1,11 @@
 ghost use mathlib.Core.Path.{_≡_};
 ghost use mathlib.Core.Bool.{true, false, cond};
-ghost use mathlib.Core.List.{List, [], _∷_};
+ghost use mathlib.Core.List.{[], _∷_};
 ghost use Prim.Native.Nat.{ℕ, _+_, _<_, _≤_, _^_};
 ghost use lib.ListN.{length, getD, take, drop};
 ghost use lib.Dec.{ltb};
 ghost use Rattle.std.specs.Options.{Cases};
-ghost use Rattle.reading.specs.Pieces.{Stretch, pieces, space, tokensFrom, tokens, partsFrom, vacant};
+ghost use Rattle.reading.specs.Pieces.{pieces, space, tokensFrom, tokens, partsFrom, vacant};
 ghost use Rattle.reading.specs.Readers.{cuts, stretchOf, Proper, Given, left, tokensLeft, tokenStretch};
 use crate::reader::Part;
 use crate::reader::Parts;
@@ -87,7 +87,11 @@ fn part_of<'a>(bytes: &'a [u8], at: usize) -> Part<'a>
     ensures stretch { λ r. ⌜ stretchOf r ≡ record { from = at; bytes = now (bytes .entry) } ⌝ }
     ensures proper { λ r. ⌜ Proper r ⌝ }
 {
-    if bytes.len() == 0 { Part::Empty { at } } else { Part::Filled { bytes, at } }
+    if bytes.len() == 0 {
+        Part::Empty { at }
+    } else {
+        Part::Filled { bytes, at }
+    }
 }
 
 impl<'a> Parts<'a> {
@@ -95,7 +99,11 @@ impl<'a> Parts<'a> {
         requires { ⌜ token .at + length (now (token .bytes)) < 2 ^ 64 ⌝ }
         ensures { λ r. ⌜ left r ≡ partsFrom (token .entry .at) (now (token .entry .bytes)) ⌝ }
     {
-        Parts { rest: token.bytes, at: token.at, more: true }
+        Parts {
+            rest: token.bytes,
+            at: token.at,
+            more: true,
+        }
     }
 
     // The next part, if one is left.
@@ -111,7 +119,11 @@ impl<'a> Parts<'a> {
         let n = piece_len(text, Separator::Slash);
         let part = part_of(&text[0..n], at);
         if n < text.len() {
-            *self = Parts { rest: &text[n + 1..], at: at + n + 1, more: true };
+            *self = Parts {
+                rest: &text[n + 1..],
+                at: at + n + 1,
+                more: true,
+            };
             return Some(part);
         }
         self.more = false;

@@ -1,14 +1,18 @@
-use elements::corner::MISSING_INDEX;
-use elements::corner::VertexIndices;
 use crate::counts::Counts;
 use crate::face::count_corners;
 use crate::face::is_ascii;
 use crate::face::parse_face;
 use crate::vertex::Parse;
 use crate::vertex::ParseVertexIndices;
+use elements::corner::MISSING_INDEX;
+use elements::corner::VertexIndices;
 use std::test::*;
 
-const THREE: Counts = Counts { positions: 3, textures: 3, normals: 3 };
+const THREE: Counts = Counts {
+    positions: 3,
+    textures: 3,
+    normals: 3,
+};
 
 // The position that a token refers to, if the token reads.
 fn position(token: &[u8]) -> Option<usize> {

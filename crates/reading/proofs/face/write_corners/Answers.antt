@@ -1,12 +1,11 @@
-use mathlib.Core.Path.{sym, subst, _∙_, ap}
+use mathlib.Core.Path.{sym, subst}
 use mathlib.Core.List.{List}
-use native.Mathlib.Omega.{arith}
 use borrow.Author.Needs.{needs}
 use Prim.Native.Nat.{_<_}
 use lib.ListN.{length}
 use Rattle.reading.specs.Pieces.{Stretch}
 use Rattle.reading.specs.Readers.{tokensLeft, tokenStretch}
-use Rattle.reading.proofs.FaceFacts.{Writing, writing-none, writing-room, writing-more, writing-stuck, writing-all}
+use Rattle.reading.proofs.FaceFacts.{Writing, writing-none, writing-room, writing-more, writing-stuck}
 use Rattle.reading.proofs.face.write_corners.Needs as need
 
 -- the next cell is there
@@ -24,7 +23,7 @@ loop-next-holds c =
 pub returns-in-rest-token-corner : need.returns-in-rest-token-corner
 returns-in-rest-token-corner c xs e =
     absurd (writing-stuck (c .args .counts) (c .args .text .now) (c .args .start) (c .args .cells .now) (tokensLeft (c .loop-next .tokens)) (c .loop-next .cells) (c .loop-next .next) (c .loop-next .inv)
-        (tokenStretch (c .in-Some .token)) (tokensLeft (c .next .last .self)) (c .in-Some .ensures tt .token) (sym (c .in-rest-token-corner .ensures tt)) (c .pre))
+    (tokenStretch (c .in-Some .token)) (tokensLeft (c .next .last .self)) (c .in-Some .ensures tt .token) (sym (c .in-rest-token-corner .ensures tt)) (c .pre))
 
 pub offset-cells-next : need.offset-cells-next
 offset-cells-next c = let h = next-fits c in search needs

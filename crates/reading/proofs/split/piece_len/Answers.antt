@@ -9,7 +9,7 @@ returns-then-splits c =
     record {
       within = omega arith;
       stopped = λ _. sym (c .if-splits .ensures tt);
-      first = piece-stop (cuts (c .args .separator)) (c .args .text .now) (c .loop-n .n) (c .loop-n-test .taken) (c .loop-n .inv) (sym (c .if-splits .ensures tt))
+      first = piece-stop (cuts (c .args .separator)) (c .args .text .now) (c .loop-n .n) (c .loop-n-test .taken) (c .loop-n .inv) (sym (c .if-splits .ensures tt));
     }
 
 pub returns : need.returns
@@ -17,5 +17,5 @@ returns c =
     record {
       within = omega arith;
       stopped = λ h. absurd (omega arith);
-      first = piece-end (cuts (c .args .separator)) (c .args .text .now) (λ k h. c .loop-n .inv k (omega arith))
+      first = piece-end (cuts (c .args .separator)) (c .args .text .now) (λ k h. c .loop-n .inv k (omega arith));
     }

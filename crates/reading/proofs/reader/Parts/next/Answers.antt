@@ -1,4 +1,4 @@
-use mathlib.Core.Path.{_≡_, sym, ap, _∙_}
+use mathlib.Core.Path.{sym, ap, _∙_}
 use borrow.Author.Needs.{needs}
 use Prim.Native.Nat.{_+_}
 use Rattle.std.proofs.shelf.Lists.{take-rest}
@@ -12,7 +12,7 @@ returns-then-n-text c =
     let n = c .piece-len-n .result in
     record {
       part = given-is s n (c .if-not-self .left) (c .piece-len-n .ensures .within) (c .piece-len-n .ensures .first) (c .part-of-part .result) (search needs) (c .part-of-part .ensures .proper);
-      left = ap (partsFrom (s .at + n + 1)) (take-rest (s .rest .now) (n + 1)) ∙ sym (tail-more s n (c .if-not-self .left) (c .piece-len-n .ensures .within) (c .piece-len-n .ensures .first) (c .if-n-text .taken))
+      left = ap (partsFrom (s .at + n + 1)) (take-rest (s .rest .now) (n + 1)) ∙ sym (tail-more s n (c .if-not-self .left) (c .piece-len-n .ensures .within) (c .piece-len-n .ensures .first) (c .if-n-text .taken));
     }
 
 pub returns : need.returns
@@ -21,5 +21,5 @@ returns c =
     let n = c .piece-len-n .result in
     record {
       part = given-is s n (c .if-not-self .left) (c .piece-len-n .ensures .within) (c .piece-len-n .ensures .first) (c .part-of-part .result) (search needs) (c .part-of-part .ensures .proper);
-      left = sym (tail-none s n (c .if-not-self .left) (c .piece-len-n .ensures .within) (c .piece-len-n .ensures .first) (c .if-n-text .left))
+      left = sym (tail-none s n (c .if-not-self .left) (c .piece-len-n .ensures .within) (c .piece-len-n .ensures .first) (c .if-n-text .left));
     }

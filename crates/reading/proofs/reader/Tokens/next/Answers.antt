@@ -1,9 +1,9 @@
-use mathlib.Core.Path.{_≡_, sym, ap, _∙_}
+use mathlib.Core.Path.{sym, ap, _∙_}
 use mathlib.Core.List.{_∷_}
 use Prim.Native.Nat.{_+_, _<_}
 use native.Mathlib.Omega.{arith}
 use borrow.Author.Needs.{needs}
-use lib.ListN.{length, take, drop}
+use lib.ListN.{length, drop}
 use denote.Ref.{now}
 use Rattle.std.proofs.shelf.Lists.{at-drop-all}
 use Rattle.reading.specs.Pieces.{tokensFrom}
@@ -18,7 +18,7 @@ returns-then-text-eq0 c =
     record {
       token = sym (c .space-len-spaces .ensures .same i) ∙ at-drop-all (tokensFrom (i + k)) R k (omega (arith, c .split-at .ensures .back-len));
       fits = tt;
-      shorter = search needs
+      shorter = search needs;
     }
 
 pub returns : need.returns
@@ -35,5 +35,5 @@ returns c =
           ∙ (ap (λ bs. record { from = i; bytes = bs } ∷ tokensFrom (i + n) (drop n T)) (sym (c .split-at-2 .ensures .front))
           ∙ ap (λ ys. record { from = i; bytes = now (c .split-at-2 .result .0) } ∷ tokensFrom (i + n) ys) (sym (c .split-at-2 .ensures .back)))));
       fits = omega (arith, c .split-at .ensures .back-len, c .split-at-2 .ensures .front-len);
-      shorter = omega (arith, c .split-at .ensures .back-len, c .split-at-2 .ensures .back-len)
+      shorter = omega (arith, c .split-at .ensures .back-len, c .split-at-2 .ensures .back-len);
     }
