@@ -3,3 +3,4 @@ pub mod CornerFacts
 pub mod WaitFacts
 pub mod FaceFacts
 pub mod HistoryFacts
+pub mod CaseFacts

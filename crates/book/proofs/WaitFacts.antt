@@ -26,7 +26,7 @@ use Rattle.reading.specs.declared.counts.Counts.{Counts}
 use Rattle.reading.specs.Ascii.{ascii}
 use Rattle.reading.specs.Face.{face, appended}
 use Rattle.reading.proofs.AsciiLaws.{only-ascii}
-use Rattle.book.specs.Rules.{corners-of, wait-checks}
+use Rattle.book.specs.Rules.{all-corners, wait-checks}
 use Rattle.book.specs.Waits.{Extended}
 use Rattle.book.proofs.CornerFacts.{fitted}
 
@@ -49,7 +49,7 @@ module _ (w : Waiting) (o : Option (List VertexIndices)) (text : List ℕ) where
   here = wait-checks (room (w .corners)) (room (w .faces)) (faces-of w) o text
 
   abbrev lacking : Bool
-  lacking = leb (room (w .faces)) (length (faces-of w)) || ltb (room (w .corners)) (length (corners-of (faces-of w)) + length (valueOr o []))
+  lacking = leb (room (w .faces)) (length (faces-of w)) || ltb (room (w .corners)) (length (all-corners (faces-of w)) + length (valueOr o []))
 
   full-is : lacking ≡ true → first here ≡ first (full-checks o text)
   full-is e = ap (λ b. first ((not (ascii text), NotAscii) ∷ (not (isSome o), FaceParseError) ∷ (b, BookFull) ∷ [])) e
@@ -72,7 +72,7 @@ no-corners w (Some xs) text h = go (leb (w .corners .count + length xs) (room (w
     go false e =
         let n = corners-waiting w in
         let l = leb-false (w .corners .count + length xs) (room (w .corners)) e in
-        full-is w (Some xs) text (or-right _ _ (lt-ltb (room (w .corners)) (length (corners-of (faces-of w)) + length xs) (omega arith)))
+        full-is w (Some xs) text (or-right _ _ (lt-ltb (room (w .corners)) (length (all-corners (faces-of w)) + length xs) (omega arith)))
 
 -- a text that reads, with cells for all
 pub no-obstacle : (w : Waiting) (n : Counts) (text : List ℕ) (xs : List VertexIndices) → face n text ≡ Some xs → w .faces .count < room (w .faces) → w .corners .count + length xs ≤ room (w .corners)
@@ -81,11 +81,11 @@ no-obstacle w n text xs is lf lc =
     let nf = faces-waiting w in
     let nc = corners-waiting w in
     let a : ascii text ≡ true = ⊎-elim (λ y. y) (λ z. (let q : _≡_ {A = Option (List VertexIndices)} (Some xs) None = sym is ∙ only-ascii n text z in let k : _≡_ {A = ℕ} 0 1 = cc in absurd (omega arith))) (cases-bool (ascii text)) in
-    let third : (leb (room (w .faces)) (length (faces-of w)) || ltb (room (w .corners)) (length (corners-of (faces-of w)) + length xs)) ≡ false =
-          or-none _ _ (lt-leb (room (w .faces)) (length (faces-of w)) (omega arith)) (le-ltb (room (w .corners)) (length (corners-of (faces-of w)) + length xs) (omega arith)) in
+    let third : (leb (room (w .faces)) (length (faces-of w)) || ltb (room (w .corners)) (length (all-corners (faces-of w)) + length xs)) ≡ false =
+          or-none _ _ (lt-leb (room (w .faces)) (length (faces-of w)) (omega arith)) (le-ltb (room (w .corners)) (length (all-corners (faces-of w)) + length xs) (omega arith)) in
     let P : Option (List VertexIndices) → Type 0 = λ o. first (wait-checks (room (w .corners)) (room (w .faces)) (faces-of w) o text) ≡ None in
     subst P (sym is)
-    (ap (λ b. first ((not b, NotAscii) ∷ (not (isSome (Some xs)), FaceParseError) ∷ (leb (room (w .faces)) (length (faces-of w)) || ltb (room (w .corners)) (length (corners-of (faces-of w)) + length xs), BookFull) ∷ [])) a
+    (ap (λ b. first ((not b, NotAscii) ∷ (not (isSome (Some xs)), FaceParseError) ∷ (leb (room (w .faces)) (length (faces-of w)) || ltb (room (w .corners)) (length (all-corners (faces-of w)) + length xs), BookFull) ∷ [])) a
     ∙ ap (λ b. first ((b, BookFull) ∷ [])) third)
 
 module _ (w : Waiting) (cs : Row VertexIndices) where

@@ -3,6 +3,8 @@
 --   contained b    what it contains
 --   Stores         one cell was written where a call was granted, and none where it was refused
 --   Awaits         a face and its corners were written where a call was granted, and nothing where it was refused
+--   left m t       what an export left in the mesh m and the tables' stock t
+--   Released       nothing waits any more where a call was granted, and all is as it was where it was refused; no cell is touched
 --   with-..        a book with another list in the place of one of its own
 use mathlib.Core.Path.{_≡_}
 use mathlib.Core.List.{List, map}
@@ -12,6 +14,7 @@ use Rattle.std.specs.declared.option.Option.{Option}
 use Rattle.std.specs.declared.option.Option.the-variants.{Some, None}
 use Rattle.std.specs.Results.{isOk}
 use Rattle.std.specs.declared.result.Result.{Result}
+use Rattle.std.specs.declared.result.Result.the-variants.{Ok, Err}
 use Rattle.elements.specs.declared.corner.VertexIndices.{VertexIndices}
 use Rattle.elements.specs.declared.error.LoadError.{LoadError}
 use Rattle.elements.specs.declared.waiting.Waiting.{Waiting}
@@ -21,9 +24,13 @@ use Rattle.elements.specs.declared.row.Row.{Row}
 use Rattle.elements.specs.Cells.{added}
 use Rattle.elements.specs.Contents.{Contents, contents}
 use Rattle.elements.specs.Rows.{held, room}
+use Rattle.mesh.specs.declared.mesh.Mesh.{Mesh}
+use Rattle.mesh.specs.Lists.{surface}
+use Rattle.mesh.specs.Writing.{Stock}
 use Rattle.reading.specs.Face.{written}
 use Rattle.book.specs.declared.book.Book.{Book}
 use Rattle.book.specs.Requests.{BookRooms}
+use Rattle.book.specs.Rules.{Left}
 
 abbrev pub rooms : Book → BookRooms
 rooms b =
@@ -48,6 +55,14 @@ Awaits None w v cs =
     × (held (v .faces) ≡ set (held (w .faces)) (w .faces .count) (record { start = w .corners .count; count = length cs }))
 Awaits (Some e) w v cs =
     (held (v .corners) ≡ held (w .corners)) × (v .corners .count ≡ w .corners .count) × (v .faces ≡ w .faces)
+
+abbrev pub left : Mesh → Stock → Left
+left m t = record { surface = surface (m .lists); material = m .«material_id»; remap = m .lists .remap .count; stock = t }
+
+abbrev pub Released : {Y E : Type 0} → Result Y E → Waiting → Waiting → Type 0
+Released (Ok n) w v =
+    (v .corners .cells ≡ w .corners .cells) × (v .faces .cells ≡ w .faces .cells) × (v .corners .count ≡ 0) × (v .faces .count ≡ 0)
+Released (Err e) w v = v ≡ w
 
 module _ (b : Book) where
   abbrev pub with-positions : Row Point → Book

@@ -9,7 +9,7 @@ ghost use Rattle.elements.specs.Contents.{nothing};
 ghost use Rattle.elements.specs.Rows.{room, Pushed};
 ghost use Rattle.book.specs.Held.{rooms as rooms-of, contained, Stores, with-positions, with-colours, with-textures, with-normals};
 ghost use Rattle.book.specs.Requests.{add-position, add-colour, add-texture, add-normal};
-ghost use Rattle.book.specs.Rules.{Does, told};
+ghost use Rattle.book.specs.Rules.{Follows, told};
 use crate::book::Book;
 use crate::cells::Cells;
 use elements::attributes::Attributes;
@@ -48,7 +48,7 @@ impl Book {
     // One position more.
     pub fn position(&mut self, x: f32, y: f32, z: f32) -> Result<(), LoadError>
         ensures rooms { λ _. ⌜ rooms-of (now (self .exit)) ≡ rooms-of (now (self .entry)) ⌝ }
-        ensures does { λ r. ⌜ Does (rooms-of (now (self .entry))) (contained (now (self .entry))) (add-position x y z) (told r) (contained (now (self .exit))) ⌝ }
+        ensures does { λ r. ⌜ Follows (rooms-of (now (self .entry))) (contained (now (self .entry))) (add-position x y z) (told r) (contained (now (self .exit))) ⌝ }
         ensures cells { λ r. ⌜ Stores point-bits r (now (self .entry) .attributes .positions) (now (self .exit) .attributes .positions) (triple-bits x y z) ⌝ }
         ensures others { λ _. ⌜ now (self .exit) ≡ with-positions (now (self .entry)) (now (self .exit) .attributes .positions) ⌝ }
     {
@@ -59,7 +59,7 @@ impl Book {
     // One colour more: it belongs to the position of the same number.
     pub fn colour(&mut self, x: f32, y: f32, z: f32) -> Result<(), LoadError>
         ensures rooms { λ _. ⌜ rooms-of (now (self .exit)) ≡ rooms-of (now (self .entry)) ⌝ }
-        ensures does { λ r. ⌜ Does (rooms-of (now (self .entry))) (contained (now (self .entry))) (add-colour x y z) (told r) (contained (now (self .exit))) ⌝ }
+        ensures does { λ r. ⌜ Follows (rooms-of (now (self .entry))) (contained (now (self .entry))) (add-colour x y z) (told r) (contained (now (self .exit))) ⌝ }
         ensures cells { λ r. ⌜ Stores point-bits r (now (self .entry) .attributes .colours) (now (self .exit) .attributes .colours) (triple-bits x y z) ⌝ }
         ensures others { λ _. ⌜ now (self .exit) ≡ with-colours (now (self .entry)) (now (self .exit) .attributes .colours) ⌝ }
     {
@@ -70,7 +70,7 @@ impl Book {
     // One texture more.
     pub fn texture(&mut self, u: f32, v: f32) -> Result<(), LoadError>
         ensures rooms { λ _. ⌜ rooms-of (now (self .exit)) ≡ rooms-of (now (self .entry)) ⌝ }
-        ensures does { λ r. ⌜ Does (rooms-of (now (self .entry))) (contained (now (self .entry))) (add-texture u v) (told r) (contained (now (self .exit))) ⌝ }
+        ensures does { λ r. ⌜ Follows (rooms-of (now (self .entry))) (contained (now (self .entry))) (add-texture u v) (told r) (contained (now (self .exit))) ⌝ }
         ensures cells { λ r. ⌜ Stores pair-bits r (now (self .entry) .attributes .textures) (now (self .exit) .attributes .textures) (double-bits u v) ⌝ }
         ensures others { λ _. ⌜ now (self .exit) ≡ with-textures (now (self .entry)) (now (self .exit) .attributes .textures) ⌝ }
     {
@@ -81,7 +81,7 @@ impl Book {
     // One normal more.
     pub fn normal(&mut self, x: f32, y: f32, z: f32) -> Result<(), LoadError>
         ensures rooms { λ _. ⌜ rooms-of (now (self .exit)) ≡ rooms-of (now (self .entry)) ⌝ }
-        ensures does { λ r. ⌜ Does (rooms-of (now (self .entry))) (contained (now (self .entry))) (add-normal x y z) (told r) (contained (now (self .exit))) ⌝ }
+        ensures does { λ r. ⌜ Follows (rooms-of (now (self .entry))) (contained (now (self .entry))) (add-normal x y z) (told r) (contained (now (self .exit))) ⌝ }
         ensures cells { λ r. ⌜ Stores point-bits r (now (self .entry) .attributes .normals) (now (self .exit) .attributes .normals) (triple-bits x y z) ⌝ }
         ensures others { λ _. ⌜ now (self .exit) ≡ with-normals (now (self .entry)) (now (self .exit) .attributes .normals) ⌝ }
     {

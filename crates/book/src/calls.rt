@@ -1,4 +1,5 @@
 use elements::error::LoadError;
+use elements::options::LoadOptions;
 
 // A call on a book, with its arguments.
 #[derive(Clone, Copy)]
@@ -8,11 +9,14 @@ pub enum Call<'a> {
     Texture(f32, f32),
     Normal(f32, f32, f32),
     Face(&'a [u8]),
+    Export(LoadOptions, Option<usize>),
 }
 
 // What a call answered.
 #[derive(Clone, Copy)]
 pub enum Answer {
     Done,
+    // an export: how many faces it wrote, and how many it skipped
+    Exported(usize, usize),
     Refused(LoadError),
 }

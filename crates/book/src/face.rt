@@ -16,7 +16,7 @@ ghost use Rattle.reading.specs.Ascii.{ascii};
 ghost use Rattle.reading.specs.Face.{face as face-of, appended};
 ghost use Rattle.book.specs.Held.{rooms as rooms-of, contained, Awaits};
 ghost use Rattle.book.specs.Requests.{add-face};
-ghost use Rattle.book.specs.Rules.{Does, told, corners-read, wait-checks};
+ghost use Rattle.book.specs.Rules.{Follows, told, corners-read, wait-checks};
 ghost use Rattle.book.specs.Waits.{Extended};
 use crate::book::Book;
 use elements::corner::Face;
@@ -33,7 +33,7 @@ impl Book {
     // One face more, from its text. References count from what the book holds now.
     pub fn face(&mut self, text: &[u8]) -> Result<(), LoadError>
         ensures rooms { λ _. ⌜ rooms-of (now (self .exit)) ≡ rooms-of (now (self .entry)) ⌝ }
-        ensures does { λ r. ⌜ Does (rooms-of (now (self .entry))) (contained (now (self .entry))) (add-face (now (text .entry))) (told r) (contained (now (self .exit))) ⌝ }
+        ensures does { λ r. ⌜ Follows (rooms-of (now (self .entry))) (contained (now (self .entry))) (add-face (now (text .entry))) (told r) (contained (now (self .exit))) ⌝ }
         ensures cells { λ r. ⌜ Awaits (refusal r) (now (self .entry) .waiting) (now (self .exit) .waiting) (corners-read (sources (now (self .entry) .attributes)) (now (text .entry))) ⌝ }
         ensures others { λ _. ⌜ now (self .exit) .attributes ≡ now (self .entry) .attributes ⌝ }
     {

@@ -3,4 +3,5 @@ pub mod book;
 pub mod calls;
 pub mod attribute;
 pub mod face;
+pub mod export;
 pub mod obey;

@@ -64,9 +64,9 @@ place-of [] m h = absurd (both-ways false refl h)
 place-of (k ∷ ks) m h = ⊎-elim
     (λ t. let P : Bool → Type 0 = λ b. PlaceOf m (k ∷ ks) (cond b 0 (suc (place ks m))) in subst P (sym t) (suc-le-suc zero-le, same-alike k m t))
     (λ f. let P : Bool → Type 0 = λ b. PlaceOf m (k ∷ ks) (cond b 0 (suc (place ks m))) in
-      let Q : Bool → Type 0 = λ b. (b || has ks m) ≡ true in
-      let rest = place-of ks m (subst Q f h) in
-      subst P (sym f) (suc-le-suc (rest .0), rest .1))
+    let Q : Bool → Type 0 = λ b. (b || has ks m) ≡ true in
+    let rest = place-of ks m (subst Q f h) in
+    subst P (sym f) (suc-le-suc (rest .0), rest .1))
     (cases-bool (alike k m))
 
 pub place-none : (ks : List (List ℕ)) (m : List ℕ) → has ks m ≡ false → place ks m ≡ length ks
@@ -89,7 +89,7 @@ place-append [] ys m h = absurd (both-ways false refl h)
 place-append (x ∷ xs) ys m h = ⊎-elim
     (λ t. cond-true (alike x m) 0 (suc (place (xs ++ ys) m)) t ∙ sym (cond-true (alike x m) 0 (suc (place xs m)) t))
     (λ f. let Q : Bool → Type 0 = λ b. (b || has xs m) ≡ true in
-      ap (λ (n : ℕ). cond (alike x m) 0 (suc n)) (place-append xs ys m (subst Q f h)))
+    ap (λ (n : ℕ). cond (alike x m) 0 (suc n)) (place-append xs ys m (subst Q f h)))
     (cases-bool (alike x m))
 
 pub place-push : (ks : List (List ℕ)) (m : List ℕ) → has ks m ≡ false → place (ks ++ m ∷ []) m ≡ length ks
@@ -137,9 +137,9 @@ has-without m [] x h = h
 has-without m (k ∷ ks) x h = ⊎-elim
     (λ t. or-right (alike k x) (has ks x) (has-without m ks x (let P : Bool → Type 0 = λ b. has (cond b (without m ks) (k ∷ without m ks)) x ≡ true in subst P t h)))
     (λ f. ⊎-elim
-      (λ here. or-left (alike k x) (has ks x) here)
-      (λ there. or-right (alike k x) (has ks x) (has-without m ks x there))
-      (or-cases (alike k x) (has (without m ks) x) (let P : Bool → Type 0 = λ b. has (cond b (without m ks) (k ∷ without m ks)) x ≡ true in subst P f h)))
+    (λ here. or-left (alike k x) (has ks x) here)
+    (λ there. or-right (alike k x) (has ks x) (has-without m ks x there))
+    (or-cases (alike k x) (has (without m ks) x) (let P : Bool → Type 0 = λ b. has (cond b (without m ks) (k ∷ without m ks)) x ≡ true in subst P f h)))
     (cases-bool (alike k m))
 
 -- one that differs stays
@@ -149,13 +149,13 @@ without-other m (k ∷ ks) x ne h =
     let P : Bool → Type 0 = λ b. has (cond b (without m ks) (k ∷ without m ks)) x ≡ true in
     ⊎-elim
     (λ t. subst P (sym t) (⊎-elim
-      (λ here. absurd (ne (sym (same-alike k x here) ∙ same-alike k m t)))
-      (λ there. without-other m ks x ne there)
-      (or-cases (alike k x) (has ks x) h)))
+    (λ here. absurd (ne (sym (same-alike k x here) ∙ same-alike k m t)))
+    (λ there. without-other m ks x ne there)
+    (or-cases (alike k x) (has ks x) h)))
     (λ f. subst P (sym f) (⊎-elim
-      (λ here. or-left (alike k x) (has (without m ks) x) here)
-      (λ there. or-right (alike k x) (has (without m ks) x) (without-other m ks x ne there))
-      (or-cases (alike k x) (has ks x) h)))
+    (λ here. or-left (alike k x) (has (without m ks) x) here)
+    (λ there. or-right (alike k x) (has (without m ks) x) (without-other m ks x ne there))
+    (or-cases (alike k x) (has ks x) h)))
     (cases-bool (alike k m))
 
 pub lacks-without : (m : List ℕ) (ks : List (List ℕ)) → has (without m ks) m ≡ false
@@ -176,8 +176,9 @@ without-none m (k ∷ ks) h =
 pub without-append : (m : List ℕ) (xs ys : List (List ℕ)) → without m (xs ++ ys) ≡ without m xs ++ without m ys
 without-append m [] ys = refl
 without-append m (x ∷ xs) ys = elim (alike x m) as (λ b. cond b (without m (xs ++ ys)) (x ∷ without m (xs ++ ys)) ≡ cond b (without m xs) (x ∷ without m xs) ++ without m ys) [
-    true ↦ without-append m xs ys
-  | false ↦ ap (λ zs. x ∷ zs) (without-append m xs ys) ]
+  | true ↦ without-append m xs ys
+  | false ↦ ap (λ zs. x ∷ zs) (without-append m xs ys)
+]
 
 pub length-without-le : (m : List ℕ) (ks : List (List ℕ)) → length (without m ks) ≤ length ks
 length-without-le m [] = omega arith
@@ -192,8 +193,8 @@ length-without-lt m (k ∷ ks) h =
     ⊎-elim
     (λ t. let le = length-without-le m ks in subst P (sym t) (omega arith))
     (λ f. let Q : Bool → Type 0 = λ b. (b || has ks m) ≡ true in
-      let lt = length-without-lt m ks (subst Q f h) in
-      subst P (sym f) (omega arith))
+    let lt = length-without-lt m ks (subst Q f h) in
+    subst P (sym f) (omega arith))
     (cases-bool (alike k m))
 
 -- ---- each once
@@ -212,18 +213,21 @@ once-apart (k ∷ ks) o (suc i) (suc j) hi hj e = ap suc (once-apart ks (o .1) i
 
 apart-once : (ks : List (List ℕ)) → Apart ks → Once ks
 apart-once [] a = tt
-apart-once (k ∷ ks) a =
-    ( lacks-absent ks k (λ i l e. let z : suc i ≡ 0 = a (suc i) 0 (suc-le-suc l) (suc-le-suc zero-le) e in omega arith)
-    , apart-once ks (λ i j hi hj e. let s : suc i ≡ suc j = a (suc i) (suc j) (suc-le-suc hi) (suc-le-suc hj) e in omega arith) )
+apart-once (k ∷ ks) a = (
+  lacks-absent ks k (λ i l e. let z : suc i ≡ 0 = a (suc i) 0 (suc-le-suc l) (suc-le-suc zero-le) e in omega arith),
+  apart-once ks (λ i j hi hj e. let s : suc i ≡ suc j = a (suc i) (suc j) (suc-le-suc hi) (suc-le-suc hj) e in omega arith),
+)
 
 once-without : (m : List ℕ) (ks : List (List ℕ)) → Once ks → Once (without m ks)
 once-without m [] o = tt
 once-without m (k ∷ ks) o =
     elim (alike k m) as (λ b. Once (cond b (without m ks) (k ∷ without m ks))) [
-      true ↦ once-without m ks (o .1)
-    | false ↦
-      ( ⊎-elim (λ t. absurd (both-ways (has ks k) (o .0) (has-without m ks k t))) (λ f. f) (cases-bool (has (without m ks) k))
-      , once-without m ks (o .1) ) ]
+      | true ↦ once-without m ks (o .1)
+      | false ↦ (
+        ⊎-elim (λ t. absurd (both-ways (has ks k) (o .0) (has-without m ks k t))) (λ f. f) (cases-bool (has (without m ks) k)),
+        once-without m ks (o .1),
+      )
+    ]
 
 once-distinct : (ks : List (List ℕ)) → Once (distinct ks)
 once-distinct [] = tt
@@ -257,9 +261,9 @@ distinct-has [] m h = h
 distinct-has (k ∷ ks) m h = ⊎-elim
     (λ here. or-left (alike k m) (has (without k (distinct ks)) m) here)
     (λ differs. or-right (alike k m) (has (without k (distinct ks)) m)
-      (without-other k (distinct ks) m
-        (λ e. both-ways (alike k m) differs (alike-from k m (sym e)))
-        (distinct-has ks m (let Q : Bool → Type 0 = λ b. (b || has ks m) ≡ true in subst Q differs h))))
+    (without-other k (distinct ks) m
+    (λ e. both-ways (alike k m) differs (alike-from k m (sym e)))
+    (distinct-has ks m (let Q : Bool → Type 0 = λ b. (b || has ks m) ≡ true in subst Q differs h))))
     (cases-bool (alike k m))
 
 pub same-has : (ks : List (List ℕ)) (m : List ℕ) → has (distinct ks) m ≡ has ks m
@@ -281,7 +285,7 @@ without-last k x ks t =
 without-other-last : (k x : List ℕ) (ks : List (List ℕ)) → alike k x ≡ false → without k (ks ++ x ∷ []) ≡ without k ks ++ x ∷ []
 without-other-last k x ks f =
     without-append k ks (x ∷ []) ∙ ap (λ ys. without k ks ++ ys) (cond-false (alike x k) [] (x ∷ [])
-      (⊎-elim (λ t. absurd (both-ways (alike k x) f (alike-from k x (sym (same-alike x k t))))) (λ g. g) (cases-bool (alike x k))))
+    (⊎-elim (λ t. absurd (both-ways (alike k x) f (alike-from k x (sym (same-alike x k t))))) (λ g. g) (cases-bool (alike x k))))
 
 pub distinct-new : (xs : List (List ℕ)) (x : List ℕ) → has xs x ≡ false → distinct (xs ++ x ∷ []) ≡ distinct xs ++ x ∷ []
 distinct-new [] x h = refl
@@ -294,7 +298,7 @@ distinct-old [] x h = absurd (both-ways false refl h)
 distinct-old (k ∷ ks) x h = ⊎-elim
     (λ t. ap (λ xs. k ∷ without k xs) (distinct-old ks x t))
     (λ f. ap (λ xs. k ∷ without k xs) (distinct-new ks x f) ∙ ap (λ xs. k ∷ xs) (without-last k x (distinct ks)
-      (⊎-elim (λ here. here) (λ there. absurd (both-ways (has ks x) f there)) (or-cases (alike k x) (has ks x) h))))
+    (⊎-elim (λ here. here) (λ there. absurd (both-ways (has ks x) f there)) (or-cases (alike k x) (has ks x) h))))
     (cases-bool (has ks x))
 
 pub distinct-more : (xs : List (List ℕ)) (x : List ℕ) → distinct (xs ++ x ∷ []) ≡ entered (distinct xs) x
@@ -355,8 +359,8 @@ once-fewest (k ∷ ks) ys o h =
     let lt = length-without-lt k ys (h k (or-left (alike k k) (has ks k) (alike-same k))) in
     let P : List ℕ → Type 0 = λ x. has ks x ≡ true in
     let le = once-fewest ks (without k ys) (o .1) (λ m t. without-other k ys m
-          (λ e. both-ways (has ks k) (o .0) (subst P e t))
-          (h m (or-right (alike k m) (has ks m) t))) in
+    (λ e. both-ways (has ks k) (o .0) (subst P e t))
+    (h m (or-right (alike k m) (has ks m) t))) in
     omega arith
 
 pub fewest : (xs ys : List (List ℕ)) → ((m : List ℕ) → has xs m ≡ true → has ys m ≡ true) → length (distinct xs) ≤ length ys

@@ -2,7 +2,6 @@ ghost use mathlib.Core.Path.{_≡_};
 ghost use mathlib.Core.Bool.{true, false, _||_};
 ghost use lib.Ieee.{isNan};
 ghost use Rattle.std.specs.Results.{Cases};
-ghost use Rattle.elements.specs.Bits.{point-bits, pair-bits};
 ghost use Rattle.elements.specs.Checks.{refusal, first};
 ghost use Rattle.elements.specs.declared.error.LoadError.the-variants.{NotANumber};
 ghost use mathlib.Core.List.{[], _∷_};
@@ -12,11 +11,7 @@ use crate::point::Point;
 
 impl Point {
     // Three zeros: what fills a place that has no point.
-    pub fn zero() -> Point
-        ensures { λ r. ⌜ point-bits r ≡ 0 ∷ 0 ∷ 0 ∷ [] ⌝ }
-    {
-        Point { x: 0.0, y: 0.0, z: 0.0 }
-    }
+    pub const ZERO: Point = Point { x: 0.0, y: 0.0, z: 0.0 };
 
     // These three numbers, refused if one of them is NaN.
     pub fn new(x: f32, y: f32, z: f32) -> Result<Point, LoadError>
@@ -32,11 +27,7 @@ impl Point {
 
 impl Pair {
     // Two zeros: what fills a place that has no texture.
-    pub fn zero() -> Pair
-        ensures { λ r. ⌜ pair-bits r ≡ 0 ∷ 0 ∷ [] ⌝ }
-    {
-        Pair { u: 0.0, v: 0.0 }
-    }
+    pub const ZERO: Pair = Pair { u: 0.0, v: 0.0 };
 
     // These two numbers, refused if one of them is NaN.
     pub fn new(u: f32, v: f32) -> Result<Pair, LoadError>

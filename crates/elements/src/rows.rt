@@ -21,7 +21,8 @@ impl<T: Copy> Row<T> {
     pub fn len(&self) -> usize
         ensures { λ r. ⌜ r ≡ now (self .entry) .count ⌝ }
     {
-        self.count
+        let Row { count, .. } = self;
+        *count
     }
 
     // How many elements there is room for.
@@ -68,7 +69,7 @@ impl<T: Copy> Row<T> {
         ensures count { λ _. ⌜ now (self .exit) .count ≡ 0 ⌝ }
         ensures room { λ _. ⌜ room (now (self .exit)) ≡ room (now (self .entry)) ⌝ }
     {
-        self.count = 0;
+        self.empty();
         list::clear(&mut self.cells, blank);
     }
 }

@@ -3,7 +3,7 @@ ghost use Prim.Native.Nat.{ℕ, _+_, _<_, _≤_};
 ghost use lib.Dec.{T};
 ghost use lib.ListN.{length, getD};
 ghost use Rattle.std.specs.Options.{Cases as BySome};
-ghost use Rattle.records.specs.Layout.{kind-of, size as bytes-of, flags as flags-of, padded, Triple, float-at, Stands};
+ghost use Rattle.records.specs.Layout.{kind-of, size as bytes-of, options-of, padded, Triple, float-at, Stands};
 use crate::record::Record;
 use crate::word::float;
 use crate::word::word;
@@ -11,6 +11,9 @@ use elements::options::LoadOptions;
 
 // The lowest head word of kind 1: a kind stands in the top four bits.
 const KIND: u32 = 1 << 28;
+
+// The flags of an export are below this.
+const FLAGS: u32 = 32;
 
 // The most bytes that a face text has on a tape.
 const MOST_TEXT: usize = 4096;
@@ -71,19 +74,16 @@ fn zeros(tape: &[u8], from: usize, to: usize) -> bool
 }
 
 // The options whose flags a number holds, a bit for each.
-fn options(flags: u32) -> Option<LoadOptions>
-    ensures { λ r. ⌜ BySome r (32 ≤ flags) (λ o. flags-of o ≡ flags) ⌝ }
+pub(crate) fn options(flags: u8) -> LoadOptions
+    ensures { λ r. ⌜ r ≡ options-of flags ⌝ }
 {
-    if flags >= 32 {
-        return None;
-    }
-    Some(LoadOptions {
-        single_index: flags % 2 == 1,
+    LoadOptions {
+        single_index: flags / 1 % 2 == 1,
         triangulate: flags / 2 % 2 == 1,
         ignore_points: flags / 4 % 2 == 1,
         ignore_lines: flags / 8 % 2 == 1,
         merge_identical_points: flags / 16 % 2 == 1,
-    })
+    }
 }
 
 // A face with a text of so many bytes, which whole words hold, filled up with zeros.
@@ -139,10 +139,7 @@ pub fn read(tape: &[u8]) -> Option<Record>
             None => None,
         },
         (5, bytes) => face(tape, bytes as usize),
-        (6, flags) => match options(flags) {
-            Some(options) => Some(Record::Export(options)),
-            None => None,
-        },
+        (6, flags) if flags < FLAGS => Some(Record::Export(flags as u8)),
         _ => None,
     }
 }

@@ -1,6 +1,4 @@
-use elements::options::LoadOptions;
-
-// One record of a tape: a call on a book. A face has so many bytes of text after its head word.
+// One record of a tape: a call on a book. A face has so many bytes of text after its head word; an export has its options as flags.
 #[derive(Clone, Copy)]
 pub enum Record {
     Position(f32, f32, f32),
@@ -8,5 +6,5 @@ pub enum Record {
     Texture(f32, f32),
     Normal(f32, f32, f32),
     Face(u16),
-    Export(LoadOptions),
+    Export(u8),
 }

@@ -1,0 +1,17 @@
+pub mod Unfold
+pub mod Surface
+pub mod Lists
+pub mod Numbering
+pub mod Merging
+pub mod Rules
+pub mod Steps
+pub mod Entering
+pub mod Single
+pub mod Streams
+pub mod MultiSteps
+pub mod Merges
+pub mod MergeLaws
+pub mod Ways
+pub mod Writing
+pub mod Outcome
+pub mod Promises

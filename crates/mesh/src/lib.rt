@@ -1,0 +1,15 @@
+pub mod cells;
+pub mod export;
+pub(crate) mod enter;
+pub mod lists;
+pub(crate) mod merge;
+pub(crate) mod merge_all;
+pub mod mesh;
+pub mod meshes;
+pub(crate) mod multi;
+pub mod numbering;
+pub(crate) mod single;
+pub(crate) mod stream;
+pub mod tables;
+pub(crate) mod trim;
+pub(crate) mod unfold;

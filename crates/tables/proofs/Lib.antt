@@ -1,0 +1,4 @@
+pub mod Places
+pub mod Slots
+pub mod Probing
+pub mod TableFacts
