@@ -4,3 +4,4 @@ pub mod WaitFacts
 pub mod FaceFacts
 pub mod HistoryFacts
 pub mod CaseFacts
+pub mod UnnamedFacts

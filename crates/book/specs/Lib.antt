@@ -5,4 +5,5 @@ pub mod Held
 pub mod Asked
 pub mod Obeyed
 pub mod History
+pub mod Unnamed
 pub mod Cases

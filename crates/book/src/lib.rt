@@ -1,7 +1,8 @@
-pub mod cells;
+pub mod attribute;
 pub mod book;
 pub mod calls;
-pub mod attribute;
-pub mod face;
+pub mod cells;
 pub mod export;
+pub mod face;
 pub mod obey;
+pub mod unnamed;

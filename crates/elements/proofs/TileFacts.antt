@@ -125,8 +125,8 @@ module _ (w : Waiting) where
   faces-more cs fs xs ec ef =
       let l = length-items (w .corners) in
       let new : Face = record { start = w .corners .count; count = length xs } in
-      let e1 : map (part cs) fs ≡ map (part (items (w .corners) ++ xs)) (items (w .faces) ++ new ∷ []) = cc (ec, ef) in
-      let e2 = map-push (part (items (w .corners) ++ xs)) (items (w .faces)) new in
-      let e3 = parts-append (items (w .corners)) (w .corners .count) (omega arith) xs (items (w .faces)) 0 (w .tiled) in
-      let e4 = part-last (items (w .corners)) xs (w .corners .count) l in
+      let cells-are : map (part cs) fs ≡ map (part (items (w .corners) ++ xs)) (items (w .faces) ++ new ∷ []) = cc (ec, ef) in
+      let pushed-is = map-push (part (items (w .corners) ++ xs)) (items (w .faces)) new in
+      let others-are = parts-append (items (w .corners)) (w .corners .count) (omega arith) xs (items (w .faces)) 0 (w .tiled) in
+      let last-is = part-last (items (w .corners)) xs (w .corners .count) l in
       cc

@@ -152,15 +152,15 @@ module _ (p : Point) (q : Pair) (a b : Lists) (s : AllSteady p q a b) where
   pub all-rooms : rooms b ≡ rooms a
   all-rooms =
       let e0 = s .positions .room in
-      let e1 = s .colours .room in
-      let e2 = s .textures .room in
-      let e3 = s .normals .room in
-      let e4 = s .indices .room in
-      let e5 = ap room (s .arities) in
-      let e6 = s .colour-indices .room in
-      let e7 = s .texture-indices .room in
-      let e8 = s .normal-indices .room in
-      let e9 = s .remap .room in
+      let first-is = s .colours .room in
+      let second-is = s .textures .room in
+      let third-is = s .normals .room in
+      let fourth-is = s .indices .room in
+      let fifth-is = ap room (s .arities) in
+      let sixth-is = s .colour-indices .room in
+      let seventh-is = s .texture-indices .room in
+      let eighth-is = s .normal-indices .room in
+      let ninth-is = s .remap .room in
       cc
 
   pub all-blank : zero-point p ≡ true → zero-pair q ≡ true → Blank a → Blank b
@@ -210,12 +210,12 @@ module _ (a : Lists) (ok : Mergeable (surface a)) where
       → surface b ≡ merged (surface a)
   merged-all b cis copied mc mp mn mt same =
       let e0 = mp .points in
-      let e1 = mc .points in
-      let e2 = mt .points in
-      let e3 = mn .points in
-      let e4 = followed point-bits (a .positions) (b .positions) (a .indices) (b .indices) mp (ok .indices) in
-      let e5 = ap items same in
-      let e6 = colour-numbers (b .«vertex_color») cis (b .«vertex_color_indices») copied mc in
-      let e7 = followed pair-bits (a .texcoords) (b .texcoords) (a .«texcoord_indices») (b .«texcoord_indices») mt (ok .textures) in
-      let e8 = followed point-bits (a .normals) (b .normals) (a .«normal_indices») (b .«normal_indices») mn (ok .normals) in
+      let first-is = mc .points in
+      let second-is = mt .points in
+      let third-is = mn .points in
+      let fourth-is = followed point-bits (a .positions) (b .positions) (a .indices) (b .indices) mp (ok .indices) in
+      let fifth-is = ap items same in
+      let sixth-is = colour-numbers (b .«vertex_color») cis (b .«vertex_color_indices») copied mc in
+      let seventh-is = followed pair-bits (a .texcoords) (b .texcoords) (a .«texcoord_indices») (b .«texcoord_indices») mt (ok .textures) in
+      let eighth-is = followed point-bits (a .normals) (b .normals) (a .«normal_indices») (b .«normal_indices») mn (ok .normals) in
       cc
