@@ -27,14 +27,25 @@ use Rattle.mesh.specs.Numbering.{Keys, numbered, with-arities}
 use Rattle.mesh.specs.Rules.{checks-after}
 use Rattle.mesh.specs.Steps.{DrawnOf}
 use Rattle.mesh.specs.Writing.{Stock, Drawn, Kept, Written, Writing}
+use Rattle.mesh.proofs.SingleListFacts.{or-false}
 use Rattle.mesh.proofs.UnfoldFacts.{corners-append, arities-append}
 use Rattle.mesh.proofs.UnfoldCells.{spare-pushed}
 
 -- the lists with other arities
 abbrev pub with-row : Lists → Row ℕ → Lists
 with-row l r =
-    record { positions = l .positions; «vertex_color» = l .«vertex_color»; texcoords = l .texcoords; normals = l .normals; indices = l .indices
-      ; «face_arities» = r; «vertex_color_indices» = l .«vertex_color_indices»; «texcoord_indices» = l .«texcoord_indices»; «normal_indices» = l .«normal_indices»; remap = l .remap }
+    record {
+      positions = l .positions;
+      «vertex_color» = l .«vertex_color»;
+      texcoords = l .texcoords;
+      normals = l .normals;
+      indices = l .indices;
+      «face_arities» = r;
+      «vertex_color_indices» = l .«vertex_color_indices»;
+      «texcoord_indices» = l .«texcoord_indices»;
+      «normal_indices» = l .«normal_indices»;
+      remap = l .remap;
+    }
 
 -- a row is never longer than its room
 over-items : {X : Type 0} (r : Row X) → over (room r) (items r) ≡ false
@@ -42,10 +53,6 @@ over-items r = let n = length-items r in let f = r .fits in le-ltb (room r) (len
 
 over-map : {X Y : Type 0} (g : X → Y) (r : Row X) → over (room r) (map g (items r)) ≡ false
 over-map g r = let n = length-items r in let k = length-map (items r) g in let f = r .fits in le-ltb (room r) (length (map g (items r))) (omega arith)
-
-or-false : (b : Bool) → (b || false) ≡ b
-or-false true = refl
-or-false false = refl
 
 or-sixth : (a b c d e x g h : Bool) → a ≡ false → b ≡ false → c ≡ false → d ≡ false → e ≡ false → g ≡ false → h ≡ false → (a || (b || (c || (d || (e || (x || (g || h))))))) ≡ x
 or-sixth a b c d e x g h pa pb pc pd pe pg ph = rw (pa, pb, pc, pd, pe, pg, ph) (or-false x)
@@ -72,7 +79,7 @@ module _ (o : LoadOptions) (s : Sources) (l : Lists) (k : ℕ) (es : List Event)
       let cs : corners-of es ≡ corners-of (es ++ arity k ∷ []) = sym (corners-append es (arity k ∷ []) ∙ append-nil (corners-of es)) in
       let ns : arities-of es ++ k ∷ [] ≡ arities-of (es ++ arity k ∷ []) = sym (arities-append es (arity k ∷ [])) in
       let here : DrawnOf o s (arities-of es ++ k ∷ []) (corners-of es) (surface (with-row l r)) ks =
-            record { surface = ap (λ xs. with-arities xs (surface l)) (p .items) ∙ sym more; keys = d .keys } in
+      record { surface = ap (λ xs. with-arities xs (surface l)) (p .items) ∙ sym more; keys = d .keys } in
       subst (λ xs. DrawnOf o s xs (corners-of (es ++ arity k ∷ [])) (surface (with-row l r)) ks) ns
       (subst (λ xs. DrawnOf o s (arities-of es ++ k ∷ []) xs (surface (with-row l r)) ks) cs here)
 
@@ -88,20 +95,31 @@ module _ (l : Lists) (r : Row ℕ) where
 module _ (o : LoadOptions) (s : Sources) (l : Lists) (t : Stock) (S : Type 0) (k : ℕ) where
   kept-row : (r : Row ℕ) → room r ≡ room (l .«face_arities») → (Spare zero-number (l .«face_arities») → Spare zero-number r) → Kept l (with-row l r) t t S S
   kept-row r e h =
-      record { rooms = rooms-row l r e
-        ; remap = refl
-        ; blank = blank-row l r h
-        ; capacities = refl; points = refl; pairs = refl; sound = λ x. x }
+      record {
+        rooms = rooms-row l r e;
+        remap = refl;
+        blank = blank-row l r h;
+        capacities = refl;
+        points = refl;
+        pairs = refl;
+        sound = λ x. x;
+      }
 
   -- it was written
   pub arity-written : (r : Row ℕ) → l .«face_arities» .count < room (l .«face_arities») → Pushed (l .«face_arities») r k → Written o s (arity k ∷ []) l (with-row l r) t t S S
   arity-written r free p =
-      record { kept = kept-row r (p .room) (spare-pushed zero-number (l .«face_arities») r k p)
-        ; wrote = λ _ es d. (ap (λ b. cond b (Some MeshFull) None) (obstacle o s l k es (t .keys) d ∙ le-ltb (room (l .«face_arities»)) (l .«face_arities» .count + 1) (omega arith))
-          , drawn-more o s l k es (t .keys) d r p) }
+      record {
+        kept = kept-row r (p .room) (spare-pushed zero-number (l .«face_arities») r k p);
+        wrote = λ _ es d. (
+          ap (λ b. cond b (Some MeshFull) None) (obstacle o s l k es (t .keys) d ∙ le-ltb (room (l .«face_arities»)) (l .«face_arities» .count + 1) (omega arith)),
+          drawn-more o s l k es (t .keys) d r p,
+        );
+      }
 
   -- there was no cell for it
   pub arity-refused : {X : Type 0} (r : Row ℕ) → room (l .«face_arities») ≤ l .«face_arities» .count → r ≡ l .«face_arities» → Writing o s (arity k ∷ []) l (with-row l r) t t S S {X = X} (Err MeshFull)
   arity-refused r full e =
-      record { kept = kept-row r (ap room e) (λ h. let P : Row ℕ → Type 0 = λ x. Spare zero-number x in subst P (sym e) h)
-        ; writes = λ _ es d. ap (λ b. cond b (Some MeshFull) None) (obstacle o s l k es (t .keys) d ∙ lt-ltb (room (l .«face_arities»)) (l .«face_arities» .count + 1) (omega arith)) }
+      record {
+        kept = kept-row r (ap room e) (λ h. let P : Row ℕ → Type 0 = λ x. Spare zero-number x in subst P (sym e) h);
+        writes = λ _ es d. ap (λ b. cond b (Some MeshFull) None) (obstacle o s l k es (t .keys) d ∙ lt-ltb (room (l .«face_arities»)) (l .«face_arities» .count + 1) (omega arith));
+      }

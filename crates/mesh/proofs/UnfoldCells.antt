@@ -12,6 +12,7 @@ use Rattle.std.proofs.shelf.Lists.{drop-drop, drop-all, append-nil, length-take
 use Rattle.elements.specs.declared.row.Row.{Row}
 use Rattle.elements.specs.Cells.{room-of, blanked}
 use Rattle.elements.specs.Rows.{held, items, room, Pushed}
+use Rattle.mesh.proofs.MergeRows.{pass-append, pass-replicate}
 use Rattle.mesh.specs.declared.lists.Lists.{Lists}
 use Rattle.mesh.specs.Surface.{empty-surface}
 use Rattle.mesh.specs.Lists.{surface, Spare}
@@ -21,19 +22,7 @@ T-right : (a b : Bool) → T (a && b) → T b
 T-right true b h = h
 T-right false b h = absurd h
 
-T-both : (a b : Bool) → a ≡ true → T b → T (a && b)
-T-both a b e h = let P : Bool → Type 0 = λ x. T (x && b) in subst P (sym e) h
-
 module _ {X : Type 0} (zero? : X → Bool) where
-  all-append : (xs ys : List X) → T (all-pass zero? xs) → T (all-pass zero? ys) → T (all-pass zero? (xs ++ ys))
-  all-append [] ys p q = q
-  all-append (x ∷ xs) ys p q =
-      elim (zero? x) as (λ b. T (b && all-pass zero? xs) → T (b && all-pass zero? (xs ++ ys))) [ true ↦ λ h. all-append xs ys h q | false ↦ λ h. h ] p
-
-  all-replicate : (n : ℕ) (z : X) → zero? z ≡ true → T (all-pass zero? (replicate n z))
-  all-replicate zero z e = tt
-  all-replicate (suc n) z e = T-both (zero? z) (all-pass zero? (replicate n z)) e (all-replicate n z e)
-
   all-drop : (n : ℕ) (xs : List X) → T (all-pass zero? xs) → T (all-pass zero? (drop n xs))
   all-drop zero xs h = h
   all-drop (suc n) [] h = tt
@@ -52,7 +41,7 @@ module _ {X : Type 0} (zero? : X → Bool) where
       (subst (λ n. P n (set (held r) (r .count) x)) (sym (p .count ∙ add-one (r .count))) (all-set (held r) (r .count) x h))
 
   all-blanked : (xs : List X) (z : X) → zero? z ≡ true → T (all-pass zero? (drop (room-of (length xs)) xs)) → T (all-pass zero? (blanked xs z))
-  all-blanked xs z e h = all-append (replicate (room-of (length xs)) z) (drop (room-of (length xs)) xs) (all-replicate (room-of (length xs)) z e) h
+  all-blanked xs z e h = pass-append zero? (replicate (room-of (length xs)) z) (drop (room-of (length xs)) xs) (pass-replicate zero? (room-of (length xs)) z e) h
 
   module _ (r s : Row X) (z : X) (none : s .count ≡ 0) (cells : held s ≡ blanked (held r) z) (e : zero? z ≡ true) where
     past-all : T (all-pass zero? (drop (room r) (held r))) → T (all-pass zero? (held s))
@@ -79,7 +68,7 @@ module _ {X : Type 0} (zero? : X → Bool) where
   -- a row that was made of zeros
   module _ (s : Row X) (n : ℕ) (z : X) (none : s .count ≡ 0) (cells : held s ≡ replicate n z) (e : zero? z ≡ true) where
     pub zeros-made : T (all-pass zero? (held s))
-    zeros-made = let P : List X → Type 0 = λ xs. T (all-pass zero? xs) in subst P (sym cells) (all-replicate n z e)
+    zeros-made = let P : List X → Type 0 = λ xs. T (all-pass zero? xs) in subst P (sym cells) (pass-replicate zero? n z e)
 
     pub spare-made : Spare zero? s
     spare-made = let P : ℕ → Type 0 = λ n. T (all-pass zero? (drop n (held s))) in subst P (sym none) zeros-made
@@ -102,7 +91,7 @@ items-none r e = ap (λ n. take n (held r)) e
 
 -- lists without elements
 pub surface-none : (l : Lists) → l .positions .count ≡ 0 → l .«vertex_color» .count ≡ 0 → l .texcoords .count ≡ 0 → l .normals .count ≡ 0 → l .indices .count ≡ 0
-  → l .«face_arities» .count ≡ 0 → l .«vertex_color_indices» .count ≡ 0 → l .«texcoord_indices» .count ≡ 0 → l .«normal_indices» .count ≡ 0 → surface l ≡ empty-surface
+    → l .«face_arities» .count ≡ 0 → l .«vertex_color_indices» .count ≡ 0 → l .«texcoord_indices» .count ≡ 0 → l .«normal_indices» .count ≡ 0 → surface l ≡ empty-surface
 surface-none l a b c d e f g h i =
     let pa : map point-bits (items (l .positions)) ≡ [] = ap (map point-bits) (items-none (l .positions) a) in
     let pb : map point-bits (items (l .«vertex_color»)) ≡ [] = ap (map point-bits) (items-none (l .«vertex_color») b) in

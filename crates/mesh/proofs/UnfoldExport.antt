@@ -54,10 +54,12 @@ module _ (l : Lists) where
 
   pub trimmed-three : (r : Row ℕ) → all-three (items (l .«face_arities»)) ≡ true → r .count ≡ 0 → room r ≡ room (l .«face_arities») → held r ≡ blanked (held (l .«face_arities»)) 0 → Trimmed l (with-row l r)
   trimmed-three r e z n cells =
-      record { surface = ap (λ ns. with-arities ns (surface l)) (items-none r z ∙ sym (ap (λ b. cond b [] (items (l .«face_arities»))) e))
-        ; rooms = rooms-row l r n
-        ; remap = refl
-        ; blank = blank-row l r (spare-cleared zero-number (l .«face_arities») r 0 z cells refl) }
+      record {
+        surface = ap (λ ns. with-arities ns (surface l)) (items-none r z ∙ sym (ap (λ b. cond b [] (items (l .«face_arities»))) e));
+        rooms = rooms-row l r n;
+        remap = refl;
+        blank = blank-row l r (spare-cleared zero-number (l .«face_arities») r 0 z cells refl);
+      }
 
 -- ---- a mesh of no events
 
@@ -115,19 +117,23 @@ beside false f g ks e = let z : _≡_ {A = ℕ} 0 1 = cc in absurd (omega arith)
 module _ (s : Sources) (ns : List ℕ) (cs : List VertexIndices) where
   single-mergeable : Mergeable (with-arities ns (single s cs))
   single-mergeable =
-      record { indices = within-map (λ k. element (s .positions) (v-of k)) (corner-keys cs)
-        ; textures = λ i l. absurd (omega arith)
-        ; normals = λ i l. absurd (omega arith)
-        ; beside = beside (some (s .colours)) (λ k. element (s .colours) (v-of k)) (λ k. element (s .positions) (v-of k)) (distinct (corner-keys cs))
-        ; none = refl }
+      record {
+        indices = within-map (λ k. element (s .positions) (v-of k)) (corner-keys cs);
+        textures = λ i l. absurd (omega arith);
+        normals = λ i l. absurd (omega arith);
+        beside = beside (some (s .colours)) (λ k. element (s .colours) (v-of k)) (λ k. element (s .positions) (v-of k)) (distinct (corner-keys cs));
+        none = refl;
+      }
 
   multi-mergeable : Mergeable (with-arities ns (multi s cs))
   multi-mergeable =
-      record { indices = within-map (λ k. element (s .positions) (v-of k)) (map one (position-refs cs))
-        ; textures = within-cond (some (s .textures)) (λ k. element (s .textures) (v-of k)) (map one (texture-refs cs))
-        ; normals = within-cond (some (s .normals)) (λ k. element (s .normals) (v-of k)) (map one (normal-refs cs))
-        ; beside = beside (some (s .colours)) (λ k. element (s .colours) (v-of k)) (λ k. element (s .positions) (v-of k)) (distinct (map one (position-refs cs)))
-        ; none = refl }
+      record {
+        indices = within-map (λ k. element (s .positions) (v-of k)) (map one (position-refs cs));
+        textures = within-cond (some (s .textures)) (λ k. element (s .textures) (v-of k)) (map one (texture-refs cs));
+        normals = within-cond (some (s .normals)) (λ k. element (s .normals) (v-of k)) (map one (normal-refs cs));
+        beside = beside (some (s .colours)) (λ k. element (s .colours) (v-of k)) (λ k. element (s .positions) (v-of k)) (distinct (map one (position-refs cs)));
+        none = refl;
+      }
 
   pub drawn-mergeable : (o : LoadOptions) (m : Surface) → m ≡ with-arities ns (numbered o s cs) → Mergeable m
   drawn-mergeable o m e =
@@ -143,28 +149,32 @@ trimmed-mergeable m h = record { indices = h .indices; textures = h .textures; n
 module _ (o : LoadOptions) (l l₁ l₂ : Lists) (t t₂ : Stock) (S S₂ : Type 0) (trim : Trimmed l l₁) where
   pub finishing-plain : {X : Type 0} (x : X) → o .«merge_identical_points» ≡ false → Finishing o l l₁ t t S S (Ok x)
   finishing-plain x e =
-      record { refused = sym (ap (λ b. first (cond b (merge-checks (rooms l) (t .capacities) (surface l)) [])) e)
-        ; granted = λ _. trim .surface ∙ sym (ap (λ b. cond b (merged (trimmed (surface l))) (trimmed (surface l))) e)
-        ; rooms = trim .rooms
-        ; remap = λ z. ap (λ (r : Row ℕ). r .count) (trim .remap) ∙ z
-        ; blank = trim .blank
-        ; keys = refl
-        ; none = λ a b. (a, b)
-        ; capacities = refl
-        ; sound = λ h. h }
+      record {
+        refused = sym (ap (λ b. first (cond b (merge-checks (rooms l) (t .capacities) (surface l)) [])) e);
+        granted = λ _. trim .surface ∙ sym (ap (λ b. cond b (merged (trimmed (surface l))) (trimmed (surface l))) e);
+        rooms = trim .rooms;
+        remap = λ z. ap (λ (r : Row ℕ). r .count) (trim .remap) ∙ z;
+        blank = trim .blank;
+        keys = refl;
+        none = λ a b. (a, b);
+        capacities = refl;
+        sound = λ h. h;
+      }
 
   pub finishing-merged : {X : Type 0} (r : Result X LoadError) → o .«merge_identical_points» ≡ true → Merging l₁ l₂ t t₂ S S₂ r → Finishing o l l₂ t t₂ S S₂ r
   finishing-merged (Ok x) e m =
-      record { refused = m .refused ∙ checks
-        ; granted = λ h. m .granted (subst Mergeable (sym (trim .surface)) (trimmed-mergeable (surface l) h))
-          ∙ (ap merged (trim .surface) ∙ sym (ap (λ b. cond b (merged (trimmed (surface l))) (trimmed (surface l))) e))
-        ; rooms = m .rooms ∙ trim .rooms
-        ; remap = λ z. m .remap
-        ; blank = λ b. m .blank (trim .blank b)
-        ; keys = m .keys
-        ; none = λ a b. m .none
-        ; capacities = m .capacities
-        ; sound = m .sound }
+      record {
+        refused = m .refused ∙ checks;
+        granted = λ h. m .granted (subst Mergeable (sym (trim .surface)) (trimmed-mergeable (surface l) h))
+            ∙ (ap merged (trim .surface) ∙ sym (ap (λ b. cond b (merged (trimmed (surface l))) (trimmed (surface l))) e));
+        rooms = m .rooms ∙ trim .rooms;
+        remap = λ z. m .remap;
+        blank = λ b. m .blank (trim .blank b);
+        keys = m .keys;
+        none = λ a b. m .none;
+        capacities = m .capacities;
+        sound = m .sound;
+      }
     where
       checks : first (merge-checks (rooms l₁) (t .capacities) (surface l₁)) ≡ first (cond (o .«merge_identical_points») (merge-checks (rooms l) (t .capacities) (surface l)) [])
       checks =
@@ -172,15 +182,17 @@ module _ (o : LoadOptions) (l l₁ l₂ : Lists) (t t₂ : Stock) (S S₂ : Type
           ∙ (ap (λ x. first (merge-checks (rooms l) (t .capacities) x)) (trim .surface)
           ∙ sym (ap (λ b. first (cond b (merge-checks (rooms l) (t .capacities) (surface l)) [])) e))
   finishing-merged (Err x) e m =
-      record { refused = m .refused ∙ checks
-        ; granted = λ _. tt
-        ; rooms = m .rooms ∙ trim .rooms
-        ; remap = λ z. m .remap
-        ; blank = λ b. m .blank (trim .blank b)
-        ; keys = m .keys
-        ; none = λ a b. m .none
-        ; capacities = m .capacities
-        ; sound = m .sound }
+      record {
+        refused = m .refused ∙ checks;
+        granted = λ _. tt;
+        rooms = m .rooms ∙ trim .rooms;
+        remap = λ z. m .remap;
+        blank = λ b. m .blank (trim .blank b);
+        keys = m .keys;
+        none = λ a b. m .none;
+        capacities = m .capacities;
+        sound = m .sound;
+      }
     where
       checks : first (merge-checks (rooms l₁) (t .capacities) (surface l₁)) ≡ first (cond (o .«merge_identical_points») (merge-checks (rooms l) (t .capacities) (surface l)) [])
       checks =
@@ -192,7 +204,7 @@ module _ (o : LoadOptions) (l l₁ l₂ : Lists) (t t₂ : Stock) (S S₂ : Type
 
 module _ (o : LoadOptions) (c : Contents) (rs : Rooms) (n : Capacities) where
   verdict-valid : (o .«single_index» && o .«merge_identical_points») ≡ false
-    → verdict o c rs n ≡ first (all-checks o (c .sources) rs n (events o (c .waiting)) ++ cond (o .«merge_identical_points») (merge-checks rs n (unmerged o c)) [])
+      → verdict o c rs n ≡ first (all-checks o (c .sources) rs n (events o (c .waiting)) ++ cond (o .«merge_identical_points») (merge-checks rs n (unmerged o c)) [])
   verdict-valid e =
       ap (λ b. cond b (Some InvalidLoadOptionConfig) (first (all-checks o (c .sources) rs n (events o (c .waiting)) ++ cond (o .«merge_identical_points») (merge-checks rs n (unmerged o c)) []))) e
 
@@ -204,28 +216,37 @@ module _ (o : LoadOptions) (c : Contents) (rs : Rooms) (n : Capacities) where
   verdict-stopped v e h = verdict-valid v ∙ first-stop (all-checks o (c .sources) rs n (events o (c .waiting))) (cond (o .«merge_identical_points») (merge-checks rs n (unmerged o c)) []) e h
 
   verdict-passed : (o .«single_index» && o .«merge_identical_points») ≡ false → first (all-checks o (c .sources) rs n (events o (c .waiting))) ≡ None
-    → verdict o c rs n ≡ first (cond (o .«merge_identical_points») (merge-checks rs n (unmerged o c)) [])
+      → verdict o c rs n ≡ first (cond (o .«merge_identical_points») (merge-checks rs n (unmerged o c)) [])
   verdict-passed v h = verdict-valid v ∙ first-pass (all-checks o (c .sources) rs n (events o (c .waiting))) (cond (o .«merge_identical_points») (merge-checks rs n (unmerged o c)) []) h
 
 module _ (o : LoadOptions) (c : Contents) (l : Lists) (t : Stock) (S : Type 0) where
   pub filling-invalid : (o .«single_index» && o .«merge_identical_points») ≡ true → Filling o c l l t t S S (Err InvalidLoadOptionConfig)
   filling-invalid e =
-      record { refused = λ _ _ _. sym (verdict-invalid o c (rooms l) (t .capacities) e)
-        ; made = λ _ _ _. tt
-        ; rooms = refl; remap = λ z. z; blank = λ b. b; none = λ a b. (a, b); capacities = refl; sound = λ h. h }
+      record {
+        refused = λ _ _ _. sym (verdict-invalid o c (rooms l) (t .capacities) e);
+        made = λ _ _ _. tt;
+        rooms = refl;
+        remap = λ z. z;
+        blank = λ b. b;
+        none = λ a b. (a, b);
+        capacities = refl;
+        sound = λ h. h;
+      }
 
   module _ (valid : (o .«single_index» && o .«merge_identical_points») ≡ false) where
     pub filling-stopped : {X : Type 0} (l₁ : Lists) (t₁ : Stock) (S₁ : Type 0) (e : LoadError) → Writing o (c .sources) (events o (c .waiting)) l l₁ t t₁ S S₁ {X = X} (Err e) → Filling o c l l₁ t t₁ S S₁ (Err e)
     filling-stopped l₁ t₁ S₁ e w =
         let k = w .kept in
-        record { refused = λ h m ks. sym (verdict-stopped o c (rooms l) (t .capacities) valid e (w .writes h [] (drawn-none o (c .sources) (surface l) (t .keys) m ks)))
-          ; made = λ _ _ _. tt
-          ; rooms = k .rooms
-          ; remap = λ z. ap (λ (r : Row ℕ). r .count) (k .remap) ∙ z
-          ; blank = k .blank
-          ; none = λ a b. (k .points ∙ a, k .pairs ∙ b)
-          ; capacities = k .capacities
-          ; sound = k .sound }
+        record {
+          refused = λ h m ks. sym (verdict-stopped o c (rooms l) (t .capacities) valid e (w .writes h [] (drawn-none o (c .sources) (surface l) (t .keys) m ks)));
+          made = λ _ _ _. tt;
+          rooms = k .rooms;
+          remap = λ z. ap (λ (r : Row ℕ). r .count) (k .remap) ∙ z;
+          blank = k .blank;
+          none = λ a b. (k .points ∙ a, k .pairs ∙ b);
+          capacities = k .capacities;
+          sound = k .sound;
+        }
 
     module _ (l₁ l₂ : Lists) (t₁ t₂ : Stock) (S₁ S₂ : Type 0) (w : Written o (c .sources) (events o (c .waiting)) l l₁ t t₁ S S₁) where
       module _ (h : S) (m : surface l ≡ empty-surface) (ks : t .keys ≡ no-keys) where
@@ -248,26 +269,33 @@ module _ (o : LoadOptions) (c : Contents) (l : Lists) (t : Stock) (S : Type 0) w
       pub filling-refused : {X : Type 0} (e : LoadError) → Finishing {X = X} o l₁ l₂ t₁ t₂ S₁ S₂ (Err e) → Filling o c l l₂ t t₂ S S₂ (Err e)
       filling-refused e f =
           let k = w .kept in
-          record { refused = λ h m ks. f .refused ∙ last-checks h m ks
-            ; made = λ _ _ _. tt
-            ; rooms = f .rooms ∙ k .rooms
-            ; remap = λ z. f .remap (ap (λ (r : Row ℕ). r .count) (k .remap) ∙ z)
-            ; blank = λ b. f .blank (k .blank b)
-            ; none = λ a b. f .none (k .points ∙ a) (k .pairs ∙ b)
-            ; capacities = f .capacities ∙ k .capacities
-            ; sound = λ h. f .sound (k .sound h) }
+          record {
+            refused = λ h m ks. f .refused ∙ last-checks h m ks;
+            made = λ _ _ _. tt;
+            rooms = f .rooms ∙ k .rooms;
+            remap = λ z. f .remap (ap (λ (r : Row ℕ). r .count) (k .remap) ∙ z);
+            blank = λ b. f .blank (k .blank b);
+            none = λ a b. f .none (k .points ∙ a) (k .pairs ∙ b);
+            capacities = f .capacities ∙ k .capacities;
+            sound = λ h. f .sound (k .sound h);
+          }
 
       pub filling-granted : {X : Type 0} (x : X) (n all : ℕ) → n ≡ length (kept-by (wanted o) (c .waiting)) → length (c .waiting) ≡ all → Finishing o l₁ l₂ t₁ t₂ S₁ S₂ (Ok x) → Filling o c l l₂ t t₂ S S₂ (Ok (n, all - n))
       filling-granted x n all e a f =
           let k = w .kept in
           let both = count-both o (c .waiting) in
           let rest : all - n ≡ length (kept-by (skips o) (c .waiting)) = omega arith in
-          record { refused = λ h m ks. f .refused ∙ last-checks h m ks
-            ; made = λ h m ks. (f .granted (fit h m ks) ∙ ap (λ x. cond (o .«merge_identical_points») (merged (trimmed x)) (trimmed x)) (drawn-is h m ks)
-              , f .keys ∙ passed h m ks .1 .keys, (e, rest))
-            ; rooms = f .rooms ∙ k .rooms
-            ; remap = λ z. f .remap (ap (λ (r : Row ℕ). r .count) (k .remap) ∙ z)
-            ; blank = λ b. f .blank (k .blank b)
-            ; none = λ a b. f .none (k .points ∙ a) (k .pairs ∙ b)
-            ; capacities = f .capacities ∙ k .capacities
-            ; sound = λ h. f .sound (k .sound h) }
+          record {
+            refused = λ h m ks. f .refused ∙ last-checks h m ks;
+            made = λ h m ks. (
+              f .granted (fit h m ks) ∙ ap (λ x. cond (o .«merge_identical_points») (merged (trimmed x)) (trimmed x)) (drawn-is h m ks),
+              f .keys ∙ passed h m ks .1 .keys,
+              (e, rest),
+            );
+            rooms = f .rooms ∙ k .rooms;
+            remap = λ z. f .remap (ap (λ (r : Row ℕ). r .count) (k .remap) ∙ z);
+            blank = λ b. f .blank (k .blank b);
+            none = λ a b. f .none (k .points ∙ a) (k .pairs ∙ b);
+            capacities = f .capacities ∙ k .capacities;
+            sound = λ h. f .sound (k .sound h);
+          }

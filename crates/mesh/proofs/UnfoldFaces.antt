@@ -47,9 +47,9 @@ module _ {X : Type 0} where
       ap (λ j. fan a b (take j cs) ++ a ∷ getD (a ∷ b ∷ cs) (suc (suc k) - 1) d ∷ getD cs k d ∷ []) e
       ∙ (ap (λ j. fan a b (take k cs) ++ a ∷ getD (a ∷ b ∷ cs) j d ∷ getD cs k d ∷ []) g
       ∙ sym (ap (λ j. fan a b (take j cs)) f
-        ∙ (ap (fan a b) (take-more cs k d inside)
-        ∙ (fan-append a b (take k cs) (getD cs k d ∷ [])
-        ∙ ap (λ w. fan a b (take k cs) ++ a ∷ w ∷ getD cs k d ∷ []) side))))
+      ∙ (ap (fan a b) (take-more cs k d inside)
+      ∙ (fan-append a b (take k cs) (getD cs k d ∷ [])
+      ∙ ap (λ w. fan a b (take k cs) ++ a ∷ w ∷ getD cs k d ∷ []) side))))
 
   pub begun-all : (cs : List X) (i : ℕ) → 3 ≤ length cs → length cs ≤ i → begun cs i ≡ triangles cs
   begun-all [] i l h = absurd (omega arith)

@@ -79,9 +79,10 @@ module _ (o : LoadOptions) (s : Sources) (rs : Rooms) (n : Capacities) where
       pub wrote-then : (m′ m″ : Surface) (ks′ ks″ : Keys) → Wrote o s rs n fs m ks m′ ks′ → Wrote o s rs n gs m′ ks′ m″ ks″ → Wrote o s rs n (fs ++ gs) m ks m″ ks″
       wrote-then m′ m″ ks′ ks″ a b es d =
           let one = a es d in
-          let two = b (es ++ fs) (one .1) in
-          (ap first (checks-append es fs gs) ∙ (first-pass (checks-after o s rs n es fs) (checks-after o s rs n (es ++ fs) gs) (one .0) ∙ two .0)
-          , subst (λ xs. Drawn o s xs m″ ks″) (append-assoc es fs gs) (two .1))
+          let two = b (es ++ fs) (one .1) in (
+            ap first (checks-append es fs gs) ∙ (first-pass (checks-after o s rs n es fs) (checks-after o s rs n (es ++ fs) gs) (one .0) ∙ two .0),
+            subst (λ xs. Drawn o s xs m″ ks″) (append-assoc es fs gs) (two .1),
+          )
 
       pub stopped-later : (m′ : Surface) (ks′ : Keys) (e : LoadError) → Wrote o s rs n fs m ks m′ ks′ → Stopped o s rs n gs m′ ks′ e → Stopped o s rs n (fs ++ gs) m ks e
       stopped-later m′ ks′ e a b es d =
@@ -96,40 +97,51 @@ module _ (o : LoadOptions) (s : Sources) (rs : Rooms) (n : Capacities) where
 module _ {X : Type 0} (o : LoadOptions) (s : Sources) (rs : Rooms) (n : Capacities) (c : VertexIndices) where
   -- a corner added is the event of that corner written
   pub adds-writes : (m m′ : Surface) (ks ks′ : Keys) (r : Result X LoadError) → Adds s rs n c o m ks m′ ks′ r
-    → Cases r (λ _. Wrote o s rs n (corner c ∷ []) m ks m′ ks′) (Stopped o s rs n (corner c ∷ []) m ks)
+      → Cases r (λ _. Wrote o s rs n (corner c ∷ []) m ks m′ ks′) (Stopped o s rs n (corner c ∷ []) m ks)
   adds-writes m m′ ks ks′ (Ok x) h = λ es d.
       let a = h (arities-of es) (corners-of es) d in
       let cs : corners-of es ++ c ∷ [] ≡ corners-of (es ++ corner c ∷ []) = sym (corners-append es (corner c ∷ [])) in
-      let ns : arities-of es ≡ arities-of (es ++ corner c ∷ []) = sym (arities-append es (corner c ∷ []) ∙ append-nil (arities-of es)) in
-      (ap first (append-nil (corner-checks o s rs n (arities-of es) (corners-of es) c)) ∙ a .0
-      , subst (λ xs. DrawnOf o s (arities-of (es ++ corner c ∷ [])) xs m′ ks′) cs (subst (λ xs. DrawnOf o s xs (corners-of es ++ c ∷ []) m′ ks′) ns (a .1)))
+      let ns : arities-of es ≡ arities-of (es ++ corner c ∷ []) = sym (arities-append es (corner c ∷ []) ∙ append-nil (arities-of es)) in (
+        ap first (append-nil (corner-checks o s rs n (arities-of es) (corners-of es) c)) ∙ a .0,
+        subst (λ xs. DrawnOf o s (arities-of (es ++ corner c ∷ [])) xs m′ ks′) cs (subst (λ xs. DrawnOf o s xs (corners-of es ++ c ∷ []) m′ ks′) ns (a .1)),
+      )
   adds-writes m m′ ks ks′ (Err e) h = λ es d.
       ap first (append-nil (corner-checks o s rs n (arities-of es) (corners-of es) c)) ∙ h (arities-of es) (corners-of es) d
 
   module _ (m m′ : Surface) (k k′ p p′ t t′ q q′ : List (List ℕ)) (r : Result X LoadError) where
     pub single-adds : o .«single_index» ≡ true → AddsSingle s rs n c m k m′ k′ r
-      → Adds s rs n c o m (record { corners = k; positions = p; textures = t; normals = q }) m′ (record { corners = k′; positions = p; textures = t; normals = q }) r
+        → Adds s rs n c o m (record { corners = k; positions = p; textures = t; normals = q }) m′ (record { corners = k′; positions = p; textures = t; normals = q }) r
     single-adds e h ns cs d =
         let keys : record { corners = k; positions = p; textures = t; normals = q } ≡ single-keys cs = d .keys ∙ ap (λ b. cond b (single-keys cs) (multi-keys s cs)) e in
         cases-weaker r (h ns cs (record { surface = d .surface ∙ ap (λ b. with-arities ns (cond b (single s cs) (multi s cs))) e; keys = ap (λ (x : Keys). x .corners) keys }))
-        (λ _ g. (ap (λ b. first (cond b (single-checks s rs n ns cs c) (multi-checks s rs n ns cs c))) e ∙ g .0
-          , record { surface = g .1 .surface ∙ sym (ap (λ b. with-arities ns (cond b (single s (cs ++ c ∷ [])) (multi s (cs ++ c ∷ [])))) e)
-            ; keys = (ap (λ w. record { corners = w; positions = p; textures = t; normals = q }) (g .1 .keys)
-              ∙ (ap (λ (x : Keys). record { corners = distinct (corner-keys (cs ++ c ∷ [])); positions = x .positions; textures = x .textures; normals = x .normals }) keys)
-              ∙ sym (ap (λ b. cond b (single-keys (cs ++ c ∷ [])) (multi-keys s (cs ++ c ∷ []))) e)) }))
+        (λ _ g. (
+          ap (λ b. first (cond b (single-checks s rs n ns cs c) (multi-checks s rs n ns cs c))) e ∙ g .0,
+          record {
+            surface = g .1 .surface ∙ sym (ap (λ b. with-arities ns (cond b (single s (cs ++ c ∷ [])) (multi s (cs ++ c ∷ [])))) e);
+            keys = (ap (λ w. record { corners = w; positions = p; textures = t; normals = q }) (g .1 .keys)
+                ∙ (ap (λ (x : Keys). record { corners = distinct (corner-keys (cs ++ c ∷ [])); positions = x .positions; textures = x .textures; normals = x .normals }) keys)
+                ∙ sym (ap (λ b. cond b (single-keys (cs ++ c ∷ [])) (multi-keys s (cs ++ c ∷ []))) e));
+          },
+        ))
         (λ x g. ap (λ b. first (cond b (single-checks s rs n ns cs c) (multi-checks s rs n ns cs c))) e ∙ g)
 
     pub multi-adds : o .«single_index» ≡ false → AddsMulti s rs n c m (record { corners = []; positions = p; textures = t; normals = q }) m′ (record { corners = []; positions = p′; textures = t′; normals = q′ }) r
-      → Adds s rs n c o m (record { corners = k; positions = p; textures = t; normals = q }) m′ (record { corners = k; positions = p′; textures = t′; normals = q′ }) r
+        → Adds s rs n c o m (record { corners = k; positions = p; textures = t; normals = q }) m′ (record { corners = k; positions = p′; textures = t′; normals = q′ }) r
     multi-adds e h ns cs d =
         let keys : record { corners = k; positions = p; textures = t; normals = q } ≡ multi-keys s cs = d .keys ∙ ap (λ b. cond b (single-keys cs) (multi-keys s cs)) e in
         let none : k ≡ [] = ap (λ (x : Keys). x .corners) keys in
-        cases-weaker r (h ns cs (record { surface = d .surface ∙ ap (λ b. with-arities ns (cond b (single s cs) (multi s cs))) e
-          ; keys = ap (λ (x : Keys). record { corners = []; positions = x .positions; textures = x .textures; normals = x .normals }) keys }))
-        (λ _ g. (ap (λ b. first (cond b (single-checks s rs n ns cs c) (multi-checks s rs n ns cs c))) e ∙ g .0
-          , record { surface = g .1 .surface ∙ sym (ap (λ b. with-arities ns (cond b (single s (cs ++ c ∷ [])) (multi s (cs ++ c ∷ [])))) e)
-            ; keys = (ap (λ w. record { corners = w; positions = p′; textures = t′; normals = q′ }) none ∙ g .1 .keys)
-              ∙ sym (ap (λ b. cond b (single-keys (cs ++ c ∷ [])) (multi-keys s (cs ++ c ∷ []))) e) }))
+        cases-weaker r (h ns cs (record {
+          surface = d .surface ∙ ap (λ b. with-arities ns (cond b (single s cs) (multi s cs))) e;
+          keys = ap (λ (x : Keys). record { corners = []; positions = x .positions; textures = x .textures; normals = x .normals }) keys;
+        }))
+        (λ _ g. (
+          ap (λ b. first (cond b (single-checks s rs n ns cs c) (multi-checks s rs n ns cs c))) e ∙ g .0,
+          record {
+            surface = g .1 .surface ∙ sym (ap (λ b. with-arities ns (cond b (single s (cs ++ c ∷ [])) (multi s (cs ++ c ∷ [])))) e);
+            keys = (ap (λ w. record { corners = w; positions = p′; textures = t′; normals = q′ }) none ∙ g .1 .keys)
+                ∙ sym (ap (λ b. cond b (single-keys (cs ++ c ∷ [])) (multi-keys s (cs ++ c ∷ []))) e);
+          },
+        ))
         (λ x g. ap (λ b. first (cond b (single-checks s rs n ns cs c) (multi-checks s rs n ns cs c))) e ∙ g)
 
 -- ---- calls one after the other
@@ -144,30 +156,36 @@ module _ (o : LoadOptions) (s : Sources) (rs rs′ : Rooms) (n n′ : Capacities
 module _ {l₀ l₁ l₂ : Lists} {t₀ t₁ t₂ : Stock} {S₀ S₁ S₂ : Type 0} where
   pub kept-then : Kept l₀ l₁ t₀ t₁ S₀ S₁ → Kept l₁ l₂ t₁ t₂ S₁ S₂ → Kept l₀ l₂ t₀ t₂ S₀ S₂
   kept-then a b =
-      record { rooms = b .rooms ∙ a .rooms
-        ; remap = b .remap ∙ a .remap
-        ; blank = λ h. b .blank (a .blank h)
-        ; capacities = b .capacities ∙ a .capacities
-        ; points = b .points ∙ a .points
-        ; pairs = b .pairs ∙ a .pairs
-        ; sound = λ h. b .sound (a .sound h) }
+      record {
+        rooms = b .rooms ∙ a .rooms;
+        remap = b .remap ∙ a .remap;
+        blank = λ h. b .blank (a .blank h);
+        capacities = b .capacities ∙ a .capacities;
+        points = b .points ∙ a .points;
+        pairs = b .pairs ∙ a .pairs;
+        sound = λ h. b .sound (a .sound h);
+      }
 
   module _ {o : LoadOptions} {s : Sources} {fs gs : List Event} where
     pub written-then : Written o s fs l₀ l₁ t₀ t₁ S₀ S₁ → Written o s gs l₁ l₂ t₁ t₂ S₁ S₂ → Written o s (fs ++ gs) l₀ l₂ t₀ t₂ S₀ S₂
     written-then a b =
-        record { kept = kept-then (a .kept) (b .kept)
-          ; wrote = λ h. wrote-then o s (rooms l₀) (t₀ .capacities) (surface l₀) (t₀ .keys) fs gs (surface l₁) (surface l₂) (t₁ .keys) (t₂ .keys) (a .wrote h)
-            (wrote-at o s (rooms l₁) (rooms l₀) (t₁ .capacities) (t₀ .capacities) gs (surface l₁) (t₁ .keys) (surface l₂) (t₂ .keys) (a .kept .rooms) (a .kept .capacities) (b .wrote (a .kept .sound h))) }
+        record {
+          kept = kept-then (a .kept) (b .kept);
+          wrote = λ h. wrote-then o s (rooms l₀) (t₀ .capacities) (surface l₀) (t₀ .keys) fs gs (surface l₁) (surface l₂) (t₁ .keys) (t₂ .keys) (a .wrote h)
+              (wrote-at o s (rooms l₁) (rooms l₀) (t₁ .capacities) (t₀ .capacities) gs (surface l₁) (t₁ .keys) (surface l₂) (t₂ .keys) (a .kept .rooms) (a .kept .capacities) (b .wrote (a .kept .sound h)));
+        }
 
     -- events that were written, and a call that was to write more
     pub writing-then : {X : Type 0} (r : Result X LoadError) → Written o s fs l₀ l₁ t₀ t₁ S₀ S₁ → Writing o s gs l₁ l₂ t₁ t₂ S₁ S₂ r → Writing o s (fs ++ gs) l₀ l₂ t₀ t₂ S₀ S₂ r
     writing-then r a b =
-        record { kept = kept-then (a .kept) (b .kept)
-          ; writes = λ h. cases-weaker r (b .writes (a .kept .sound h))
-            (λ _ w. wrote-then o s (rooms l₀) (t₀ .capacities) (surface l₀) (t₀ .keys) fs gs (surface l₁) (surface l₂) (t₁ .keys) (t₂ .keys) (a .wrote h)
+        record {
+          kept = kept-then (a .kept) (b .kept);
+          writes = λ h. cases-weaker r (b .writes (a .kept .sound h))
+              (λ _ w. wrote-then o s (rooms l₀) (t₀ .capacities) (surface l₀) (t₀ .keys) fs gs (surface l₁) (surface l₂) (t₁ .keys) (t₂ .keys) (a .wrote h)
               (wrote-at o s (rooms l₁) (rooms l₀) (t₁ .capacities) (t₀ .capacities) gs (surface l₁) (t₁ .keys) (surface l₂) (t₂ .keys) (a .kept .rooms) (a .kept .capacities) w))
-            (λ e w. stopped-later o s (rooms l₀) (t₀ .capacities) (surface l₀) (t₀ .keys) fs gs (surface l₁) (t₁ .keys) e (a .wrote h)
-              (stopped-at o s (rooms l₁) (rooms l₀) (t₁ .capacities) (t₀ .capacities) gs (surface l₁) (t₁ .keys) e (a .kept .rooms) (a .kept .capacities) w)) }
+              (λ e w. stopped-later o s (rooms l₀) (t₀ .capacities) (surface l₀) (t₀ .keys) fs gs (surface l₁) (t₁ .keys) e (a .wrote h)
+              (stopped-at o s (rooms l₁) (rooms l₀) (t₁ .capacities) (t₀ .capacities) gs (surface l₁) (t₁ .keys) e (a .kept .rooms) (a .kept .capacities) w));
+        }
 
 module _ {l l′ : Lists} {t t′ : Stock} {S S′ : Type 0} {o : LoadOptions} {s : Sources} {fs : List Event} where
   pub written-writing : {X : Type 0} (x : X) → Written o s fs l l′ t t′ S S′ → Writing o s fs l l′ t t′ S S′ (Ok x)

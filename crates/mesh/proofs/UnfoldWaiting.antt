@@ -1,24 +1,23 @@
 -- Waiting faces, one after the other.
 use mathlib.Core.Path.{_≡_, refl, sym, ap, subst, _∙_}
-use mathlib.Core.Bool.{Bool, true, false, not, cond, _&&_}
+use mathlib.Core.Bool.{Bool, true, false, not, cond}
 use mathlib.Core.List.{List, [], _∷_, _++_, map}
-use Prim.Native.Nat.{ℕ, zero, suc, _+_, _-_, _<_, _≤_}
+use Prim.Native.Nat.{ℕ, _+_, _-_, _<_, _≤_}
 use native.Mathlib.Omega.{arith}
-use lib.Dec.{T, eqb}
 use lib.ListN.{length, getD, take, drop}
 use Rattle.std.specs.shelf.Lists.{joined, kept-by}
 use Rattle.std.proofs.shelf.Lists.{append-nil, append-assoc, length-map, length-append, length-drop, length-take-le, getD-map, getD-take, take-more, take-take, drop-take, take-append-drop}
 use Rattle.std.proofs.shelf.Elements.{kept-by-append}
 use Rattle.std.proofs.shelf.Filters.{length-kept-by-more, length-kept-by-both}
-use Rattle.std.proofs.shelf.Tests.{eqb-true}
 use Rattle.elements.specs.declared.corner.VertexIndices.{VertexIndices}
 use Rattle.elements.specs.declared.corner.Face.{Face}
 use Rattle.elements.specs.declared.options.LoadOptions.{LoadOptions}
 use Rattle.elements.specs.declared.waiting.Waiting.{Waiting}
 use Rattle.elements.specs.Contents.{faces-of}
 use Rattle.elements.specs.Rows.{held, items, room}
-use Rattle.elements.specs.Tiles.{part, tiles}
+use Rattle.elements.specs.Tiles.{part}
 use Rattle.elements.proofs.RowFacts.{length-items, item-at}
+use Rattle.elements.proofs.TileFacts.{tiles-at}
 use Rattle.mesh.specs.declared.unfold.Unfolding.{Unfolding}
 use Rattle.mesh.specs.declared.unfold.Unfolding.the-variants.{Skipped, Empty, Point, Line, Fan, Plain}
 use Rattle.mesh.specs.Unfold.{Event, skips, wanted, triangles, face-events, events}
@@ -96,36 +95,6 @@ module _ {X : Type 0} (d : X) where
   line-is (a ∷ b ∷ c ∷ f) e = absurd (omega arith)
 
 -- ---- the corners of a waiting face
-
-T-true : (b : Bool) → T b → b ≡ true
-T-true true t = refl
-T-true false t = absurd t
-
-T-left : (a b : Bool) → T (a && b) → T a
-T-left true b h = tt
-T-left false b h = absurd h
-
-T-right : (a b : Bool) → T (a && b) → T b
-T-right true b h = h
-T-right false b h = absurd h
-
-T-eq : (a b : ℕ) → T (eqb a b) → a ≡ b
-T-eq a b t = eqb-true a b (T-true (eqb a b) t)
-
-tiles-upto : (fs : List Face) (n m : ℕ) → T (tiles n fs m) → n ≤ m
-tiles-upto [] n m t = let e = T-eq n m t in omega arith
-tiles-upto (f ∷ fs) n m t = let h = tiles-upto fs (n + f .count) m (T-right (eqb (f .start) n) _ t) in omega arith
-
-tiles-at : (fs : List Face) (n m : ℕ) → T (tiles n fs m) → (i : ℕ) (d : Face) → i < length fs → getD fs i d .start + getD fs i d .count ≤ m
-tiles-at [] n m t i d l = absurd (omega arith)
-tiles-at (f ∷ fs) n m t zero d l =
-    let e = T-eq (f .start) n (T-left (eqb (f .start) n) _ t) in
-    let up = tiles-upto fs (n + f .count) m (T-right (eqb (f .start) n) _ t) in
-    omega arith
-tiles-at (f ∷ fs) n m t (suc i) d l = tiles-at fs (n + f .count) m (T-right (eqb (f .start) n) _ t) i d (omega arith)
-
-pub faces-count : (w : Waiting) → length (faces-of w) ≡ w .faces .count
-faces-count w = length-map (items (w .faces)) (part (items (w .corners))) ∙ length-items (w .faces)
 
 module _ (w : Waiting) (i : ℕ) (l : i < w .faces .count) (f : Face) (e : f ≡ getD (held (w .faces)) i f) where
   is-face : getD (items (w .faces)) i f ≡ f

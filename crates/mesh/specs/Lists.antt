@@ -18,28 +18,32 @@ use Rattle.mesh.specs.Surface.{Surface, Rooms}
 
 abbrev pub surface : Lists → Surface
 surface l =
-    record { positions = map point-bits (items (l .positions))
-      ; colours = map point-bits (items (l .«vertex_color»))
-      ; textures = map pair-bits (items (l .texcoords))
-      ; normals = map point-bits (items (l .normals))
-      ; indices = items (l .indices)
-      ; arities = items (l .«face_arities»)
-      ; colour-indices = items (l .«vertex_color_indices»)
-      ; texture-indices = items (l .«texcoord_indices»)
-      ; normal-indices = items (l .«normal_indices») }
+    record {
+      positions = map point-bits (items (l .positions));
+      colours = map point-bits (items (l .«vertex_color»));
+      textures = map pair-bits (items (l .texcoords));
+      normals = map point-bits (items (l .normals));
+      indices = items (l .indices);
+      arities = items (l .«face_arities»);
+      colour-indices = items (l .«vertex_color_indices»);
+      texture-indices = items (l .«texcoord_indices»);
+      normal-indices = items (l .«normal_indices»);
+    }
 
 abbrev pub rooms : Lists → Rooms
 rooms l =
-    record { positions = room (l .positions)
-      ; colours = room (l .«vertex_color»)
-      ; textures = room (l .texcoords)
-      ; normals = room (l .normals)
-      ; indices = room (l .indices)
-      ; arities = room (l .«face_arities»)
-      ; colour-indices = room (l .«vertex_color_indices»)
-      ; texture-indices = room (l .«texcoord_indices»)
-      ; normal-indices = room (l .«normal_indices»)
-      ; remap = room (l .remap) }
+    record {
+      positions = room (l .positions);
+      colours = room (l .«vertex_color»);
+      textures = room (l .texcoords);
+      normals = room (l .normals);
+      indices = room (l .indices);
+      arities = room (l .«face_arities»);
+      colour-indices = room (l .«vertex_color_indices»);
+      texture-indices = room (l .«texcoord_indices»);
+      normal-indices = room (l .«normal_indices»);
+      remap = room (l .remap);
+    }
 
 -- a number, a point and a pair of zeros, bit by bit
 abbrev pub zero-number : ℕ → Bool

@@ -17,15 +17,17 @@ renumbered xs ns = map (λ n. place (distinct xs) (getD xs n [])) ns
 
 abbrev pub merged : Surface → Surface
 merged m =
-    record { positions = distinct (m .positions)
-      ; colours = distinct (m .colours)
-      ; textures = distinct (m .textures)
-      ; normals = distinct (m .normals)
-      ; indices = renumbered (m .positions) (m .indices)
-      ; arities = m .arities
-      ; colour-indices = cond (some (m .colours)) (renumbered (m .colours) (m .indices)) []
-      ; texture-indices = renumbered (m .textures) (m .texture-indices)
-      ; normal-indices = renumbered (m .normals) (m .normal-indices) }
+    record {
+      positions = distinct (m .positions);
+      colours = distinct (m .colours);
+      textures = distinct (m .textures);
+      normals = distinct (m .normals);
+      indices = renumbered (m .positions) (m .indices);
+      arities = m .arities;
+      colour-indices = cond (some (m .colours)) (renumbered (m .colours) (m .indices)) [];
+      texture-indices = renumbered (m .textures) (m .texture-indices);
+      normal-indices = renumbered (m .normals) (m .normal-indices);
+    }
 
 -- the longest list that is to be merged
 abbrev pub longest : Surface → ℕ

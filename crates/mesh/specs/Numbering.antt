@@ -64,12 +64,17 @@ coloured xs ks = cond (some xs) (map (λ k. element xs (v-of k)) ks) []
 
 abbrev pub single-of : Sources → List (List ℕ) → List (List ℕ) → Surface
 single-of s ks ms =
-    record { positions = map (λ k. element (s .positions) (v-of k)) ks
-      ; colours = coloured (s .colours) ks
-      ; textures = with-fillers (0 ∷ 0 ∷ []) (s .textures) vt-of ks
-      ; normals = with-fillers (0 ∷ 0 ∷ 0 ∷ []) (s .normals) vn-of ks
-      ; indices = map (place ks) ms
-      ; arities = []; colour-indices = []; texture-indices = []; normal-indices = [] }
+    record {
+      positions = map (λ k. element (s .positions) (v-of k)) ks;
+      colours = coloured (s .colours) ks;
+      textures = with-fillers (0 ∷ 0 ∷ []) (s .textures) vt-of ks;
+      normals = with-fillers (0 ∷ 0 ∷ 0 ∷ []) (s .normals) vn-of ks;
+      indices = map (place ks) ms;
+      arities = [];
+      colour-indices = [];
+      texture-indices = [];
+      normal-indices = [];
+    }
 
 abbrev pub single : Sources → List VertexIndices → Surface
 single s cs = single-of s (distinct (corner-keys cs)) (corner-keys cs)
@@ -106,14 +111,17 @@ ref-numbers xs rs = cond (some xs) (numbers (map one rs)) []
 
 abbrev pub multi : Sources → List VertexIndices → Surface
 multi s cs =
-    record { positions = map (λ k. element (s .positions) (v-of k)) (distinct (map one (position-refs cs)))
-      ; colours = coloured (s .colours) (distinct (map one (position-refs cs)))
-      ; textures = picked (s .textures) (texture-refs cs)
-      ; normals = picked (s .normals) (normal-refs cs)
-      ; indices = numbers (map one (position-refs cs))
-      ; arities = []; colour-indices = []
-      ; texture-indices = ref-numbers (s .textures) (texture-refs cs)
-      ; normal-indices = ref-numbers (s .normals) (normal-refs cs) }
+    record {
+      positions = map (λ k. element (s .positions) (v-of k)) (distinct (map one (position-refs cs)));
+      colours = coloured (s .colours) (distinct (map one (position-refs cs)));
+      textures = picked (s .textures) (texture-refs cs);
+      normals = picked (s .normals) (normal-refs cs);
+      indices = numbers (map one (position-refs cs));
+      arities = [];
+      colour-indices = [];
+      texture-indices = ref-numbers (s .textures) (texture-refs cs);
+      normal-indices = ref-numbers (s .normals) (normal-refs cs);
+    }
 
 -- ---- by the options
 
@@ -128,10 +136,12 @@ single-keys cs = record { corners = distinct (corner-keys cs); positions = []; t
 
 abbrev pub multi-keys : Sources → List VertexIndices → Keys
 multi-keys s cs =
-    record { corners = []
-      ; positions = distinct (map one (position-refs cs))
-      ; textures = ref-keys (s .textures) (texture-refs cs)
-      ; normals = ref-keys (s .normals) (normal-refs cs) }
+    record {
+      corners = [];
+      positions = distinct (map one (position-refs cs));
+      textures = ref-keys (s .textures) (texture-refs cs);
+      normals = ref-keys (s .normals) (normal-refs cs);
+    }
 
 abbrev pub keyed : LoadOptions → Sources → List VertexIndices → Keys
 keyed o s cs = cond (o .«single_index») (single-keys cs) (multi-keys s cs)
@@ -141,8 +151,17 @@ numbered o s cs = cond (o .«single_index») (single s cs) (multi s cs)
 
 abbrev pub with-arities : List ℕ → Surface → Surface
 with-arities ns m =
-    record { positions = m .positions; colours = m .colours; textures = m .textures; normals = m .normals; indices = m .indices
-      ; arities = ns; colour-indices = m .colour-indices; texture-indices = m .texture-indices; normal-indices = m .normal-indices }
+    record {
+      positions = m .positions;
+      colours = m .colours;
+      textures = m .textures;
+      normals = m .normals;
+      indices = m .indices;
+      arities = ns;
+      colour-indices = m .colour-indices;
+      texture-indices = m .texture-indices;
+      normal-indices = m .normal-indices;
+    }
 
 abbrev pub drawn : LoadOptions → Sources → List Event → Surface
 drawn o s es = with-arities (arities-of es) (numbered o s (corners-of es))

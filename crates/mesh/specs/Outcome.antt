@@ -1,10 +1,14 @@
 -- What an export leaves.
+--   Zero z r        every cell of the row passes the test z for zero
 --   Zeros l         every cell of the lists is zero
 --   Cleared m       no element in any list of the mesh, no material, and zero in every cell
 --   rooms-of c      the rooms of a mesh over the cells c
+--   Unused l        no element in any of the lists, and zero in every cell
 --   Clearing        the lists l were cleared, and became l′
 --   Trimmed         arities that say no more than that every face has three corners were left out
 --   Made            the mesh and the keys of a granted export, and how many faces it wrote and skipped
+--   Finishing       the arities were trimmed, and the mesh merged where that is asked for
+--   Filling         the waiting faces were written into lists and tables that were empty, and the mesh was finished
 --   Exported        all that an export does: when it is refused, and what it leaves
 use mathlib.Core.Path.{_≡_}
 use mathlib.Core.Bool.{Bool, cond, true}
@@ -54,16 +58,24 @@ pub record Cleared (m : Mesh) : Type 0 where
 
 abbrev pub rooms-of : Cells → Rooms
 rooms-of c =
-    record { positions = room-of (length (vec-items (c .positions)))
-      ; colours = room-of (length (vec-items (c .«vertex_color»)))
-      ; textures = room-of (length (vec-items (c .texcoords)))
-      ; normals = room-of (length (vec-items (c .normals)))
-      ; indices = room-of (length (vec-items (c .indices)))
-      ; arities = room-of (length (vec-items (c .«face_arities»)))
-      ; colour-indices = room-of (length (vec-items (c .«vertex_color_indices»)))
-      ; texture-indices = room-of (length (vec-items (c .«texcoord_indices»)))
-      ; normal-indices = room-of (length (vec-items (c .«normal_indices»)))
-      ; remap = room-of (length (vec-items (c .remap))) }
+    record {
+      positions = room-of (length (vec-items (c .positions)));
+      colours = room-of (length (vec-items (c .«vertex_color»)));
+      textures = room-of (length (vec-items (c .texcoords)));
+      normals = room-of (length (vec-items (c .normals)));
+      indices = room-of (length (vec-items (c .indices)));
+      arities = room-of (length (vec-items (c .«face_arities»)));
+      colour-indices = room-of (length (vec-items (c .«vertex_color_indices»)));
+      texture-indices = room-of (length (vec-items (c .«texcoord_indices»)));
+      normal-indices = room-of (length (vec-items (c .«normal_indices»)));
+      remap = room-of (length (vec-items (c .remap)));
+    }
+
+pub record Unused (l : Lists) : Type 0 where
+  pub none : surface l ≡ empty-surface
+  pub remap : l .remap .count ≡ 0
+  pub blank : Blank l
+  pub zeros : Zeros l
 
 pub record Clearing (l l′ : Lists) : Type 0 where
   pub none : surface l′ ≡ empty-surface
@@ -83,10 +95,9 @@ abbrev pub Made : LoadOptions → Contents → Surface → Keys → Result (ℕ 
 Made o c m ks r =
     Cases r
     (λ n. (m ≡ finished o c) × (ks ≡ keyed o (c .sources) (corners-of (events o (c .waiting))))
-      × ((n .0 ≡ length (kept-by (wanted o) (c .waiting))) × (n .1 ≡ length (kept-by (skips o) (c .waiting)))))
+    × ((n .0 ≡ length (kept-by (wanted o) (c .waiting))) × (n .1 ≡ length (kept-by (skips o) (c .waiting)))))
     (λ _. Unit {0})
 
--- trimming, and merging where it is asked for
 pub record Finishing {X : Type 0} (o : LoadOptions) (l l′ : Lists) (t t′ : Stock) (S S′ : Type 0) (r : Result X LoadError) : Type 0 where
   pub refused : refusal r ≡ first (cond (o .«merge_identical_points») (merge-checks (rooms l) (t .capacities) (surface l)) [])
   pub granted : Mergeable (surface l) → Cases r (λ _. surface l′ ≡ cond (o .«merge_identical_points») (merged (trimmed (surface l))) (trimmed (surface l))) (λ _. Unit {0})
@@ -98,7 +109,6 @@ pub record Finishing {X : Type 0} (o : LoadOptions) (l l′ : Lists) (t t′ : S
   pub capacities : t′ .capacities ≡ t .capacities
   pub sound : S → S′
 
--- the waiting faces of c, written into lists and tables that were empty
 pub record Filling (o : LoadOptions) (c : Contents) (l l′ : Lists) (t t′ : Stock) (S S′ : Type 0) (r : Result (ℕ × ℕ) LoadError) : Type 0 where
   pub refused : S → surface l ≡ empty-surface → t .keys ≡ no-keys → refusal r ≡ verdict o c (rooms l) (t .capacities)
   pub made : S → surface l ≡ empty-surface → t .keys ≡ no-keys → Made o c (surface l′) (t′ .keys) r

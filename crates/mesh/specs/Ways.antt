@@ -1,11 +1,12 @@
 -- The ways in which a face unfolds.
 --   Unfolds o f w    under the options o the face f unfolds in the way w: what it means for the face to be skipped, or for its events
 --   left-out w       the way of a face that is skipped
+--   triangle cs i    the triangle of a fan that ends at the corner i: the first corner, the one before i, and i
 use mathlib.Core.Path.{_≡_}
 use mathlib.Core.Bool.{Bool, true, false}
 use mathlib.Core.List.{List, [], _∷_, _++_, map}
-use Prim.Native.Nat.{ℕ, _≤_}
-use lib.ListN.{length}
+use Prim.Native.Nat.{ℕ, _-_, _≤_}
+use lib.ListN.{length, getD}
 use Rattle.elements.specs.declared.corner.VertexIndices.{VertexIndices}
 use Rattle.elements.specs.declared.options.LoadOptions.{LoadOptions}
 use Rattle.mesh.specs.declared.unfold.Unfolding.{Unfolding}
@@ -27,3 +28,10 @@ left-out Point = false
 left-out Line = false
 left-out Fan = false
 left-out Plain = false
+
+-- what is read past the corners
+abbrev pub nowhere : VertexIndices
+nowhere = record { v = 0; vt = 0; vn = 0 }
+
+abbrev pub triangle : List VertexIndices → ℕ → List VertexIndices
+triangle cs i = getD cs 0 nowhere ∷ getD cs (i - 1) nowhere ∷ getD cs i nowhere ∷ []

@@ -70,8 +70,8 @@ module _ (o : LoadOptions) (s : Sources) (fs : List Event) (l l′ : Lists) (t t
   pub record Writing {X : Type 0} (r : Result X LoadError) : Type 0 where
     pub kept : Kept l l′ t t′ S S′
     pub writes : S → Cases r
-      (λ _. Wrote o s (rooms l) (t .capacities) fs (surface l) (t .keys) (surface l′) (t′ .keys))
-      (Stopped o s (rooms l) (t .capacities) fs (surface l) (t .keys))
+        (λ _. Wrote o s (rooms l) (t .capacities) fs (surface l) (t .keys) (surface l′) (t′ .keys))
+        (Stopped o s (rooms l) (t .capacities) fs (surface l) (t .keys))
 
 pub record Merging {X : Type 0} (l l′ : Lists) (t t′ : Stock) (S S′ : Type 0) (r : Result X LoadError) : Type 0 where
   pub refused : refusal r ≡ first (merge-checks (rooms l) (t .capacities) (surface l))

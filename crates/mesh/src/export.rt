@@ -14,7 +14,14 @@ use elements::waiting::Waiting;
 
 // Writes the waiting faces into the mesh, and answers how many it wrote and how many it skipped. A refused export leaves the mesh
 // cleared and the tables empty.
-pub fn export<N: Numbering>(attributes: &Attributes, waiting: &Waiting, options: LoadOptions, material: Option<usize>, mesh: &mut Mesh, tables: &mut N) -> Result<(usize, usize), LoadError>
+pub fn export<N: Numbering>(
+    attributes: &Attributes,
+    waiting: &Waiting,
+    options: LoadOptions,
+    material: Option<usize>,
+    mesh: &mut Mesh,
+    tables: &mut N,
+) -> Result<(usize, usize), LoadError>
     ensures { λ r. ⌜ Exported options (contents (now (attributes .entry)) (now (waiting .entry))) material (rooms (now (mesh .entry) .lists)) (N·Numbering .stock (now (tables .entry)) .capacities) (now (mesh .exit)) (N·Numbering .stock (now (tables .exit))) (N·Numbering .sound (now (tables .exit))) r ⌝ }
 {
     mesh.clear();
@@ -33,7 +40,13 @@ pub fn export<N: Numbering>(attributes: &Attributes, waiting: &Waiting, options:
 }
 
 // The waiting faces into lists and tables that are empty.
-fn fill<N: Numbering>(attributes: &Attributes, waiting: &Waiting, options: LoadOptions, lists: &mut Lists, tables: &mut N) -> Result<(usize, usize), LoadError>
+fn fill<N: Numbering>(
+    attributes: &Attributes,
+    waiting: &Waiting,
+    options: LoadOptions,
+    lists: &mut Lists,
+    tables: &mut N,
+) -> Result<(usize, usize), LoadError>
     ensures { λ r. ⌜ Filling options (contents (now (attributes .entry)) (now (waiting .entry))) (now (lists .entry)) (now (lists .exit)) (N·Numbering .stock (now (tables .entry))) (N·Numbering .stock (now (tables .exit))) (N·Numbering .sound (now (tables .entry))) (N·Numbering .sound (now (tables .exit))) r ⌝ }
 {
     if !options.is_valid() {
@@ -51,7 +64,11 @@ fn fill<N: Numbering>(attributes: &Attributes, waiting: &Waiting, options: LoadO
 }
 
 // Leaves needless arities out, and merges if that is asked for.
-fn finish<N: Numbering>(options: LoadOptions, lists: &mut Lists, tables: &mut N) -> Result<(), LoadError>
+fn finish<N: Numbering>(
+    options: LoadOptions,
+    lists: &mut Lists,
+    tables: &mut N,
+) -> Result<(), LoadError>
     ensures { λ r. ⌜ Finishing options (now (lists .entry)) (now (lists .exit)) (N·Numbering .stock (now (tables .entry))) (N·Numbering .stock (now (tables .exit))) (N·Numbering .sound (now (tables .entry))) (N·Numbering .sound (now (tables .exit))) r ⌝ }
 {
     trim_arities(lists);

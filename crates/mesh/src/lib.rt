@@ -1,6 +1,7 @@
 pub mod cells;
-pub mod export;
+pub(crate) mod clear;
 pub(crate) mod enter;
+pub mod export;
 pub mod lists;
 pub(crate) mod merge;
 pub(crate) mod merge_all;

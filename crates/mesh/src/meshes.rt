@@ -4,7 +4,7 @@ ghost use Rattle.std.specs.Of.Vec.{vec-items};
 ghost use Rattle.elements.specs.Cells.{room-of as most-of};
 ghost use Rattle.elements.specs.Rows.{held};
 ghost use Rattle.mesh.specs.Lists.{rooms};
-ghost use Rattle.mesh.specs.Outcome.{Cleared, Clearing, rooms-of};
+ghost use Rattle.mesh.specs.Outcome.{Cleared, Unused, rooms-of};
 use crate::cells::Cells;
 use crate::lists::Lists;
 use crate::mesh::Mesh;
@@ -19,20 +19,8 @@ impl Mesh {
         ensures cleared { λ r. ⌜ Cleared r ⌝ }
         ensures rooms { λ r. ⌜ rooms (r .lists) ≡ rooms-of cells ⌝ }
     {
-        let Cells { positions, vertex_color, texcoords, normals, indices, face_arities, vertex_color_indices, texcoord_indices, normal_indices, remap } = cells;
         Mesh {
-            lists: Lists {
-                positions: blank_row(positions, Point::ZERO),
-                vertex_color: blank_row(vertex_color, Point::ZERO),
-                texcoords: blank_row(texcoords, Pair::ZERO),
-                normals: blank_row(normals, Point::ZERO),
-                indices: blank_row(indices, 0),
-                face_arities: blank_row(face_arities, 0),
-                vertex_color_indices: blank_row(vertex_color_indices, 0),
-                texcoord_indices: blank_row(texcoord_indices, 0),
-                normal_indices: blank_row(normal_indices, 0),
-                remap: blank_row(remap, 0),
-            },
+            lists: blank_lists(cells),
             material_id: None,
         }
     }
@@ -100,14 +88,36 @@ impl Mesh {
     {
         self.material_id
     }
+}
 
-    // No element, no material, and zero in every cell.
-    pub(crate) fn clear(&mut self)
-        ensures cleared { λ _. ⌜ Cleared (now (self .exit)) ⌝ }
-        ensures rooms { λ _. ⌜ rooms (now (self .exit) .lists) ≡ rooms (now (self .entry) .lists) ⌝ }
-    {
-        self.material_id = None;
-        clear_lists(&mut self.lists);
+// Empty lists over these cells, with zero in each.
+fn blank_lists(cells: Cells) -> Lists
+    ensures unused { λ r. ⌜ Unused r ⌝ }
+    ensures rooms { λ r. ⌜ rooms r ≡ rooms-of cells ⌝ }
+{
+    let Cells {
+        positions,
+        vertex_color,
+        texcoords,
+        normals,
+        indices,
+        face_arities,
+        vertex_color_indices,
+        texcoord_indices,
+        normal_indices,
+        remap,
+    } = cells;
+    Lists {
+        positions: blank_row(positions, Point::ZERO),
+        vertex_color: blank_row(vertex_color, Point::ZERO),
+        texcoords: blank_row(texcoords, Pair::ZERO),
+        normals: blank_row(normals, Point::ZERO),
+        indices: blank_row(indices, 0),
+        face_arities: blank_row(face_arities, 0),
+        vertex_color_indices: blank_row(vertex_color_indices, 0),
+        texcoord_indices: blank_row(texcoord_indices, 0),
+        normal_indices: blank_row(normal_indices, 0),
+        remap: blank_row(remap, 0),
     }
 }
 
@@ -121,20 +131,4 @@ fn blank_row<T: Copy>(cells: Vec<T>, blank: T) -> Row<T>
     let mut row = Row::new(kept);
     row.clear(blank);
     row
-}
-
-// No element in any list, and zero in every cell.
-fn clear_lists(lists: &mut Lists)
-    ensures { λ _. ⌜ Clearing (now (lists .entry)) (now (lists .exit)) ⌝ }
-{
-    lists.positions.clear(Point::ZERO);
-    lists.vertex_color.clear(Point::ZERO);
-    lists.texcoords.clear(Pair::ZERO);
-    lists.normals.clear(Point::ZERO);
-    lists.indices.clear(0);
-    lists.face_arities.clear(0);
-    lists.vertex_color_indices.clear(0);
-    lists.texcoord_indices.clear(0);
-    lists.normal_indices.clear(0);
-    lists.remap.clear(0);
 }

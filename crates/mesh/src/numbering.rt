@@ -33,7 +33,13 @@ pub trait Numbering {
         ensures sound { λ _. ⌜ sound (now (self .exit)) ⌝ };
 
     // One corner more in the mesh, by one number or by three, as the options ask.
-    fn add_corner(&mut self, options: LoadOptions, lists: &mut Lists, attributes: &Attributes, vert: VertexIndices) -> Result<(), LoadError>
+    fn add_corner(
+        &mut self,
+        options: LoadOptions,
+        lists: &mut Lists,
+        attributes: &Attributes,
+        vert: VertexIndices,
+    ) -> Result<(), LoadError>
         ensures { λ r. ⌜ Writing options (sources (now (attributes .entry))) (corner vert ∷ []) (now (lists .entry)) (now (lists .exit)) (stock (now (self .entry))) (stock (now (self .exit))) (sound (now (self .entry))) (sound (now (self .exit))) r ⌝ };
 
     // Merges what agrees bit for bit.
@@ -41,12 +47,20 @@ pub trait Numbering {
         ensures { λ r. ⌜ Merging (now (lists .entry)) (now (lists .exit)) (stock (now (self .entry))) (stock (now (self .exit))) (sound (now (self .entry))) (sound (now (self .exit))) r ⌝ };
 }
 
-pub impl<Ct: CornerTable<VertexIndices>, Pt: CornerTable<Reference>, Tt: CornerTable<Reference>, Nt: CornerTable<Reference>, Qt: CornerTable<Point>, Rt: CornerTable<Pair>> Numbering for Tables<Ct, Pt, Tt, Nt, Qt, Rt> as TablesNumbering {
+pub impl<
+    Ct: CornerTable<VertexIndices>,
+    Pt: CornerTable<Reference>,
+    Tt: CornerTable<Reference>,
+    Nt: CornerTable<Reference>,
+    Qt: CornerTable<Point>,
+    Rt: CornerTable<Pair>,
+> Numbering for Tables<Ct, Pt, Tt, Nt, Qt, Rt> as TablesNumbering {
     ghost stock = { λ t. record {
-        keys = record { corners = Ct·CornerTable .keys (t .corners); positions = Pt·CornerTable .keys (t .positions); textures = Tt·CornerTable .keys (t .textures); normals = Nt·CornerTable .keys (t .normals) };
-        points = Qt·CornerTable .keys (t .points);
-        pairs = Rt·CornerTable .keys (t .pairs);
-        capacities = record { corners = Ct·CornerTable .capacity (t .corners); positions = Pt·CornerTable .capacity (t .positions); textures = Tt·CornerTable .capacity (t .textures); normals = Nt·CornerTable .capacity (t .normals); points = Qt·CornerTable .capacity (t .points); pairs = Rt·CornerTable .capacity (t .pairs) } } };
+      keys = record { corners = Ct·CornerTable .keys (t .corners); positions = Pt·CornerTable .keys (t .positions); textures = Tt·CornerTable .keys (t .textures); normals = Nt·CornerTable .keys (t .normals) };
+      points = Qt·CornerTable .keys (t .points);
+      pairs = Rt·CornerTable .keys (t .pairs);
+      capacities = record { corners = Ct·CornerTable .capacity (t .corners); positions = Pt·CornerTable .capacity (t .positions); textures = Tt·CornerTable .capacity (t .textures); normals = Nt·CornerTable .capacity (t .normals); points = Qt·CornerTable .capacity (t .points); pairs = Rt·CornerTable .capacity (t .pairs) };
+    } };
     // a corner that repeats a texture's or a normal's number asks its table nothing, so that these hold no more than they have room for is said here
     ghost sound = { λ t. (Ct·CornerTable .sound (t .corners) × Pt·CornerTable .sound (t .positions) × Tt·CornerTable .sound (t .textures)) × (Nt·CornerTable .sound (t .normals) × Qt·CornerTable .sound (t .points) × Rt·CornerTable .sound (t .pairs))
         × ((length (Tt·CornerTable .keys (t .textures)) ≤ Tt·CornerTable .capacity (t .textures)) × (length (Nt·CornerTable .keys (t .normals)) ≤ Nt·CornerTable .capacity (t .normals))) };
@@ -60,11 +74,24 @@ pub impl<Ct: CornerTable<VertexIndices>, Pt: CornerTable<Reference>, Tt: CornerT
         self.pairs.empty();
     }
 
-    fn add_corner(&mut self, options: LoadOptions, lists: &mut Lists, attributes: &Attributes, vert: VertexIndices) -> Result<(), LoadError> {
+    fn add_corner(
+        &mut self,
+        options: LoadOptions,
+        lists: &mut Lists,
+        attributes: &Attributes,
+        vert: VertexIndices,
+    ) -> Result<(), LoadError> {
         if options.single_index {
             add_vertex(lists, &mut self.corners, attributes, vert)
         } else {
-            add_vertex_multi_index(lists, &mut self.positions, &mut self.textures, &mut self.normals, attributes, vert)
+            add_vertex_multi_index(
+                lists,
+                &mut self.positions,
+                &mut self.textures,
+                &mut self.normals,
+                attributes,
+                vert,
+            )
         }
     }
 

@@ -7,7 +7,7 @@ ghost use Rattle.std.specs.shelf.Lists.{kept-by};
 ghost use Rattle.elements.specs.declared.corner.VertexIndices.{VertexIndices};
 ghost use Rattle.elements.specs.Contents.{sources, faces-of};
 ghost use Rattle.mesh.specs.Unfold.{wanted, triangles, corner, arity, events};
-ghost use Rattle.mesh.specs.Ways.{Unfolds, left-out};
+ghost use Rattle.mesh.specs.Ways.{Unfolds, left-out, triangle};
 ghost use Rattle.mesh.specs.Writing.{Writing};
 use crate::lists::Lists;
 use crate::numbering::Numbering;
@@ -54,7 +54,13 @@ fn is_skipped(way: Unfolding) -> bool
 }
 
 // Corners one after the other.
-fn write_corners<N: Numbering>(options: LoadOptions, lists: &mut Lists, tables: &mut N, attributes: &Attributes, corners: &[VertexIndices]) -> Result<(), LoadError>
+fn write_corners<N: Numbering>(
+    options: LoadOptions,
+    lists: &mut Lists,
+    tables: &mut N,
+    attributes: &Attributes,
+    corners: &[VertexIndices],
+) -> Result<(), LoadError>
     ensures { λ r. ⌜ Writing options (sources (now (attributes .entry))) (map corner (now (corners .entry))) (now (lists .entry)) (now (lists .exit)) (N·Numbering .stock (now (tables .entry))) (N·Numbering .stock (now (tables .exit))) (N·Numbering .sound (now (tables .entry))) (N·Numbering .sound (now (tables .exit))) r ⌝ }
 {
     for vert in corners {
@@ -65,14 +71,28 @@ fn write_corners<N: Numbering>(options: LoadOptions, lists: &mut Lists, tables: 
     Ok(())
 }
 
+// The triangle of a fan that ends at a corner.
+fn triangle_at(corners: &[VertexIndices], at: usize) -> [VertexIndices; 3]
+    requires { ⌜ 0 < at ⌝ ∗ ⌜ at < length (now corners) ⌝ }
+    ensures { λ r. ⌜ r ≡ triangle (now (corners .entry)) at ⌝ }
+{
+    [corners[0], corners[at - 1], corners[at]]
+}
+
 // The triangles around the first corner.
-fn write_fan<N: Numbering>(options: LoadOptions, lists: &mut Lists, tables: &mut N, attributes: &Attributes, corners: &[VertexIndices]) -> Result<(), LoadError>
+fn write_fan<N: Numbering>(
+    options: LoadOptions,
+    lists: &mut Lists,
+    tables: &mut N,
+    attributes: &Attributes,
+    corners: &[VertexIndices],
+) -> Result<(), LoadError>
     requires { ⌜ 3 ≤ length (now corners) ⌝ }
     ensures { λ r. ⌜ Writing options (sources (now (attributes .entry))) (map corner (triangles (now (corners .entry)))) (now (lists .entry)) (now (lists .exit)) (N·Numbering .stock (now (tables .entry))) (N·Numbering .stock (now (tables .exit))) (N·Numbering .sound (now (tables .entry))) (N·Numbering .sound (now (tables .exit))) r ⌝ }
 {
     for at in 2..corners.len() {
-        let triangle = [corners[0], corners[at - 1], corners[at]];
-        if let Err(error) = write_corners(options, lists, tables, attributes, &triangle) {
+        let sides = triangle_at(corners, at);
+        if let Err(error) = write_corners(options, lists, tables, attributes, &sides) {
             return Err(error);
         }
     }
@@ -80,7 +100,13 @@ fn write_fan<N: Numbering>(options: LoadOptions, lists: &mut Lists, tables: &mut
 }
 
 // The corners as they stand, and then how many they are.
-fn write_plain<N: Numbering>(options: LoadOptions, lists: &mut Lists, tables: &mut N, attributes: &Attributes, corners: &[VertexIndices]) -> Result<(), LoadError>
+fn write_plain<N: Numbering>(
+    options: LoadOptions,
+    lists: &mut Lists,
+    tables: &mut N,
+    attributes: &Attributes,
+    corners: &[VertexIndices],
+) -> Result<(), LoadError>
     requires { ⌜ length (now corners) ≤ 16777216 ⌝ }
     ensures { λ r. ⌜ Writing options (sources (now (attributes .entry))) (map corner (now (corners .entry)) ++ arity (length (now (corners .entry))) ∷ []) (now (lists .entry)) (now (lists .exit)) (N·Numbering .stock (now (tables .entry))) (N·Numbering .stock (now (tables .exit))) (N·Numbering .sound (now (tables .entry))) (N·Numbering .sound (now (tables .exit))) r ⌝ }
 {
@@ -94,7 +120,14 @@ fn write_plain<N: Numbering>(options: LoadOptions, lists: &mut Lists, tables: &m
 }
 
 // One face, in the way in which it unfolds.
-fn write_face<N: Numbering>(way: Unfolding, options: LoadOptions, lists: &mut Lists, tables: &mut N, attributes: &Attributes, corners: &[VertexIndices]) -> Result<(), LoadError>
+fn write_face<N: Numbering>(
+    way: Unfolding,
+    options: LoadOptions,
+    lists: &mut Lists,
+    tables: &mut N,
+    attributes: &Attributes,
+    corners: &[VertexIndices],
+) -> Result<(), LoadError>
     requires way { ⌜ Unfolds options (now corners) way ⌝ }
     requires short { ⌜ length (now corners) ≤ 16777216 ⌝ }
     ensures { λ r. ⌜ Writing options (sources (now (attributes .entry))) (events options (now (corners .entry) ∷ [])) (now (lists .entry)) (now (lists .exit)) (N·Numbering .stock (now (tables .entry))) (N·Numbering .stock (now (tables .exit))) (N·Numbering .sound (now (tables .entry))) (N·Numbering .sound (now (tables .exit))) r ⌝ }
@@ -102,8 +135,20 @@ fn write_face<N: Numbering>(way: Unfolding, options: LoadOptions, lists: &mut Li
     match way {
         Unfolding::Skipped => Ok(()),
         Unfolding::Empty => Err(LoadError::InvalidPolygon),
-        Unfolding::Point => write_corners(options, lists, tables, attributes, &[corners[0], corners[0], corners[0]]),
-        Unfolding::Line => write_corners(options, lists, tables, attributes, &[corners[0], corners[1], corners[1]]),
+        Unfolding::Point => write_corners(
+            options,
+            lists,
+            tables,
+            attributes,
+            &[corners[0], corners[0], corners[0]],
+        ),
+        Unfolding::Line => write_corners(
+            options,
+            lists,
+            tables,
+            attributes,
+            &[corners[0], corners[1], corners[1]],
+        ),
         Unfolding::Fan => write_fan(options, lists, tables, attributes, corners),
         Unfolding::Plain => write_plain(options, lists, tables, attributes, corners),
     }
@@ -123,7 +168,13 @@ fn corners_of(waiting: &Waiting, at: usize) -> &[VertexIndices]
 }
 
 // Every waiting face that is not skipped, in order; answers how many these are.
-pub(crate) fn write_faces<N: Numbering>(options: LoadOptions, lists: &mut Lists, tables: &mut N, attributes: &Attributes, waiting: &Waiting) -> Result<usize, LoadError>
+pub(crate) fn write_faces<N: Numbering>(
+    options: LoadOptions,
+    lists: &mut Lists,
+    tables: &mut N,
+    attributes: &Attributes,
+    waiting: &Waiting,
+) -> Result<usize, LoadError>
     ensures writes { λ r. ⌜ Writing options (sources (now (attributes .entry))) (events options (faces-of (now (waiting .entry)))) (now (lists .entry)) (now (lists .exit)) (N·Numbering .stock (now (tables .entry))) (N·Numbering .stock (now (tables .exit))) (N·Numbering .sound (now (tables .entry))) (N·Numbering .sound (now (tables .exit))) r ⌝ }
     ensures count { λ r. ⌜ Cases r (λ n. n ≡ length (kept-by (wanted options) (faces-of (now (waiting .entry))))) (λ _. Unit {0}) ⌝ }
 {

@@ -2,9 +2,10 @@ use native.Mathlib.Omega.{arith}
 use mathlib.Core.Path.{_≡_, sym}
 use mathlib.Core.Bool.{false, _&&_}
 use Rattle.std.proofs.shelf.Tests.{not-true}
+use Rattle.elements.proofs.TileFacts.{faces-waiting}
 use Rattle.elements.specs.Contents.{contents, faces-of}
 use Rattle.mesh.proofs.UnfoldFacts.{writing-written}
-use Rattle.mesh.proofs.UnfoldWaiting.{faces-count, count-both}
+use Rattle.mesh.proofs.UnfoldWaiting.{count-both}
 use Rattle.mesh.proofs.UnfoldExport.{filling-stopped, filling-refused, filling-granted}
 use Rattle.mesh.proofs.export.fill.Needs as need
 
@@ -19,7 +20,7 @@ returns-in-Err-finish g c =
 pub sub-result : need.sub-result
 sub-result g c =
     let n = c .in-Ok .ensures tt .count in
-    let k = faces-count (c .args .waiting .now) in
+    let k = faces-waiting (c .args .waiting .now) in
     let b = count-both (c .args .options) (faces-of (c .args .waiting .now)) in
     omega arith
 
@@ -30,7 +31,7 @@ returns-in-rest g c =
     (c .write-faces .last .lists) (c .finish .last .lists) (g .N·Numbering .stock (c .write-faces .last .tables)) (g .N·Numbering .stock (c .finish .last .tables))
     (g .N·Numbering .sound (c .write-faces .last .tables)) (g .N·Numbering .sound (c .finish .last .tables))
     (writing-written (c .in-Ok .written) (c .in-Ok .ensures tt .writes)) (c .in-rest .field-0) (c .in-Ok .written) (c .args .waiting .now .faces .count)
-    (c .in-Ok .ensures tt .count) (faces-count (c .args .waiting .now)) (c .in-rest .ensures tt)
+    (c .in-Ok .ensures tt .count) (faces-waiting (c .args .waiting .now)) (c .in-rest .ensures tt)
 
 pub returns-in-Err : need.returns-in-Err
 returns-in-Err g c =

@@ -6,5 +6,7 @@ use Rattle.mesh.proofs.meshes.blank_row.Needs as need
 
 pub returns : need.returns
 returns g c =
-    record { count = c .clear .ensures .count
-      ; cells = c .clear .ensures .cells ∙ blanked-cut (vec-items (c .args .cells)) (held (c .new-row .result)) (c .args .blank) (ap vec-items (c .new-row .ensures .0) ∙ c .truncate .ensures .items) }
+    record {
+      count = c .clear .ensures .count;
+      cells = c .clear .ensures .cells ∙ blanked-cut (vec-items (c .args .cells)) (held (c .new-row .result)) (c .args .blank) (ap vec-items (c .new-row .ensures .0) ∙ c .truncate .ensures .items);
+    }

@@ -40,6 +40,8 @@ returns c =
     let n : f .start + f .count - f .start ≡ f .count = omega arith in
     let x = face-short w (c .args .at) (c .pre) f (c .index-face .ensures) in
     let k = length-take (f .start + f .count - f .start) (drop (f .start) (c .deref-corners .result .now)) in
-    record { corners = ap (λ j. take j (drop (f .start) (c .deref-corners .result .now))) n
-        ∙ (ap (λ xs. take (f .count) (drop (f .start) xs)) (c .deref-corners .ensures .value) ∙ face-corners w (c .args .at) (c .pre) f (c .index-face .ensures))
-      ; short = omega arith }
+    record {
+      corners = ap (λ j. take j (drop (f .start) (c .deref-corners .result .now))) n
+          ∙ (ap (λ xs. take (f .count) (drop (f .start) xs)) (c .deref-corners .ensures .value) ∙ face-corners w (c .args .at) (c .pre) f (c .index-face .ensures));
+      short = omega arith;
+    }
