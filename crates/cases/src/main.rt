@@ -131,12 +131,13 @@ fn print_numbers(rt: &LibcRuntime, name: &str, row: &Row<u32>) -> Result<(), Any
 
 // What an export left in its mesh.
 fn print_mesh(rt: &LibcRuntime, mesh: &Mesh) -> Result<(), AnyError> {
-    let positions = mesh.positions().len();
-    let textures = mesh.texcoords().len();
+    let lists = mesh.lists();
+    let positions = lists.positions.len();
+    let textures = lists.texcoords.len();
     println!(rt, "  positions {positions} textures {textures}")?;
-    print_numbers(rt, "indices", mesh.indices())?;
-    print_numbers(rt, "arities", mesh.face_arities())?;
-    print_numbers(rt, "texture indices", mesh.texcoord_indices())
+    print_numbers(rt, "indices", &lists.indices)?;
+    print_numbers(rt, "arities", &lists.face_arities)?;
+    print_numbers(rt, "texture indices", &lists.texcoord_indices)
 }
 
 // One case: these texts into a book, and an export of it.

@@ -25,64 +25,14 @@ impl Mesh {
         }
     }
 
-    // The positions, each with its three numbers.
-    pub fn positions(&self) -> &Row<Point>
-        ensures { λ r. ⌜ now r ≡ now (self .entry) .lists .positions ⌝ }
+    // The lists of the mesh, to be read.
+    pub fn lists(&self) -> &Lists
+        ensures { λ r. ⌜ now r ≡ now (self .entry) .lists ⌝ }
     {
-        &self.lists.positions
+        &self.lists
     }
 
-    // The colours, beside the positions; merged they have indices of their own.
-    pub fn vertex_color(&self) -> &Row<Point>
-        ensures { λ r. ⌜ now r ≡ now (self .entry) .lists .«vertex_color» ⌝ }
-    {
-        &self.lists.vertex_color
-    }
-
-    pub fn texcoords(&self) -> &Row<Pair>
-        ensures { λ r. ⌜ now r ≡ now (self .entry) .lists .texcoords ⌝ }
-    {
-        &self.lists.texcoords
-    }
-
-    pub fn normals(&self) -> &Row<Point>
-        ensures { λ r. ⌜ now r ≡ now (self .entry) .lists .normals ⌝ }
-    {
-        &self.lists.normals
-    }
-
-    // The number of each written corner.
-    pub fn indices(&self) -> &Row<u32>
-        ensures { λ r. ⌜ now r ≡ now (self .entry) .lists .indices ⌝ }
-    {
-        &self.lists.indices
-    }
-
-    // How many corners each face has; none where every face has three.
-    pub fn face_arities(&self) -> &Row<u32>
-        ensures { λ r. ⌜ now r ≡ now (self .entry) .lists .«face_arities» ⌝ }
-    {
-        &self.lists.face_arities
-    }
-
-    pub fn vertex_color_indices(&self) -> &Row<u32>
-        ensures { λ r. ⌜ now r ≡ now (self .entry) .lists .«vertex_color_indices» ⌝ }
-    {
-        &self.lists.vertex_color_indices
-    }
-
-    pub fn texcoord_indices(&self) -> &Row<u32>
-        ensures { λ r. ⌜ now r ≡ now (self .entry) .lists .«texcoord_indices» ⌝ }
-    {
-        &self.lists.texcoord_indices
-    }
-
-    pub fn normal_indices(&self) -> &Row<u32>
-        ensures { λ r. ⌜ now r ≡ now (self .entry) .lists .«normal_indices» ⌝ }
-    {
-        &self.lists.normal_indices
-    }
-
+    // The material that it was exported with.
     pub fn material_id(&self) -> Option<usize>
         ensures { λ r. ⌜ r ≡ now (self .entry) .«material_id» ⌝ }
     {

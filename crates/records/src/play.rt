@@ -89,7 +89,10 @@ fn line(kind: u8, answer: Answer, mesh: &Mesh) -> Line
     ensures { λ r. ⌜ ((t : Stock) → r ≡ line-of kind answer (left (now (mesh .entry)) t)) ⌝ }
 {
     match answer {
-        Answer::Exported(..) => Line { kind, answer, indices: mesh.indices().len(), positions: mesh.positions().len() },
+        Answer::Exported(..) => {
+            let lists = mesh.lists();
+            Line { kind, answer, indices: lists.indices.len(), positions: lists.positions.len() }
+        }
         _ => Line { kind, answer, indices: 0, positions: 0 },
     }
 }
