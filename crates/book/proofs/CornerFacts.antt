@@ -65,9 +65,9 @@ module _ (r : Row VertexIndices) (cells ws : List VertexIndices) (e : cells ≡ 
 
   -- a granted list stands after the others
   pub extended : (o : Option (List VertexIndices)) (k : ℕ) → Some k ≡ appended o (r .count) (room-of (length cells)) → Granted o (r .count) cells ws (Some k)
-    → (xs : List VertexIndices) → o ≡ Some xs → r .count + length xs ≤ room r
-    → (f : r .count + k ≤ room-of (length (refilled (r .cells) ws .items)))
-    → Extended r (record { cells = refilled (r .cells) ws; count = r .count + k; fits = f }) xs
+      → (xs : List VertexIndices) → o ≡ Some xs → r .count + length xs ≤ room r
+      → (f : r .count + k ≤ room-of (length (refilled (r .cells) ws .items)))
+      → Extended r (record { cells = refilled (r .cells) ws; count = r .count + k; fits = f }) xs
   extended o k h g xs is l f =
       let room-is : room-of (length cells) ≡ room r = ap (λ ys. room-of (length ys)) e in
       let got = g xs is (omega arith) in
@@ -77,9 +77,11 @@ module _ (r : Row VertexIndices) (cells ws : List VertexIndices) (e : cells ≡ 
       let front = length-take-le (r .count) (held r) (omega arith) in
       let both = length-append (take (r .count) (held r)) xs in
       let joined : written xs (r .count) (held r) ≡ (take (r .count) (held r) ++ xs) ++ drop (r .count + length xs) (held r) = sym (append-assoc (take (r .count) (held r)) xs (drop (r .count + length xs) (held r))) in
-      record { cells = all
-        ; count = ap (λ i. r .count + i) kn
-        ; items = ap (take (r .count + k)) (all ∙ joined) ∙ take-at (take (r .count) (held r) ++ xs) (drop (r .count + length xs) (held r)) (r .count + k) (omega arith) }
+      record {
+        cells = all;
+        count = ap (λ i. r .count + i) kn;
+        items = ap (take (r .count + k)) (all ∙ joined) ∙ take-at (take (r .count) (held r) ++ xs) (drop (r .count + length xs) (held r)) (r .count + k) (omega arith);
+      }
 
   -- and a list that was not appended did not fit
   pub never : (o : Option (List VertexIndices)) → Granted o (r .count) cells ws None → (xs : List VertexIndices) → o ≡ Some xs → r .count + length xs ≤ room r → ⊥

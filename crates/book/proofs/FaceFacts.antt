@@ -32,14 +32,14 @@ counts-are a =
 
 module _ (corners faces : ℕ) (c : Contents) (text : List ℕ) where
   settles : (answer : Result Unit LoadError) (fs : List (List VertexIndices)) → fs ≡ cond (isOk answer) (c .waiting ++ corners-read (c .sources) text ∷ []) (c .waiting)
-    → Settled (refusal answer) c (record { sources = c .sources; waiting = c .waiting ++ corners-read (c .sources) text ∷ [] }) (told answer) (record { sources = c .sources; waiting = fs })
+      → Settled (refusal answer) c (record { sources = c .sources; waiting = c .waiting ++ corners-read (c .sources) text ∷ [] }) (told answer) (record { sources = c .sources; waiting = fs })
   settles (Ok u) fs e = (refl, ap (λ w. record { sources = c .sources; waiting = w }) e)
   settles (Err x) fs e = (refl, ap (λ w. record { sources = c .sources; waiting = w }) e)
 
   pub face-does : (n : Counts) → n ≡ counts-of (c .sources) → (answer : Result Unit LoadError) (fs : List (List VertexIndices))
-    → refusal answer ≡ first (wait-checks corners faces (c .waiting) (face n text) text)
-    → fs ≡ cond (isOk answer) (c .waiting ++ valueOr (face n text) [] ∷ []) (c .waiting)
-    → Settled (first (wait-checks corners faces (c .waiting) (face (counts-of (c .sources)) text) text)) c
+      → refusal answer ≡ first (wait-checks corners faces (c .waiting) (face n text) text)
+      → fs ≡ cond (isOk answer) (c .waiting ++ valueOr (face n text) [] ∷ []) (c .waiting)
+      → Settled (first (wait-checks corners faces (c .waiting) (face (counts-of (c .sources)) text) text)) c
       (record { sources = c .sources; waiting = c .waiting ++ corners-read (c .sources) text ∷ [] }) (told answer) (record { sources = c .sources; waiting = fs })
   face-does n en answer fs er ef =
       let P : Option LoadError → Type 0 = λ v. Settled v c (record { sources = c .sources; waiting = c .waiting ++ corners-read (c .sources) text ∷ [] }) (told answer) (record { sources = c .sources; waiting = fs }) in

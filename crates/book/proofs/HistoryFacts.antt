@@ -56,20 +56,28 @@ module _ (l : Log) (c : Contents) (h : Agrees l c) where
       let k = length-push (l .all) f in
       let i = h .counted in
       let j = h .conserved in
-      record { positions = h .positions; textures = h .textures; normals = h .normals
-        ; waiting = ap (λ fs. fs ++ corners-read (c .sources) text ∷ []) (h .waiting) ∙ ap (λ g. l .waiting ++ g ∷ []) e
-        ; order = ap (λ g. l .gone ++ (c .waiting ++ g ∷ [])) e ∙ (sym (append-assoc (l .gone) (c .waiting) (f ∷ [])) ∙ ap (λ fs. fs ++ f ∷ []) (h .order))
-        ; counted = omega arith
-        ; conserved = omega arith }
+      record {
+        positions = h .positions;
+        textures = h .textures;
+        normals = h .normals;
+        waiting = ap (λ fs. fs ++ corners-read (c .sources) text ∷ []) (h .waiting) ∙ ap (λ g. l .waiting ++ g ∷ []) e;
+        order = ap (λ g. l .gone ++ (c .waiting ++ g ∷ [])) e ∙ (sym (append-assoc (l .gone) (c .waiting) (f ∷ [])) ∙ ap (λ fs. fs ++ f ∷ []) (h .order));
+        counted = omega arith;
+        conserved = omega arith;
+      }
   granted-agrees (write-mesh o material ms ts) =
       let both = written-or-skipped o (l .waiting) in
       let n = ap length (h .waiting) in
       let j = h .conserved in
-      record { positions = h .positions; textures = h .textures; normals = h .normals
-        ; waiting = refl
-        ; order = append-nil (l .gone ++ l .waiting) ∙ (ap (λ fs. l .gone ++ fs) (sym (h .waiting)) ∙ h .order)
-        ; counted = h .counted
-        ; conserved = omega arith }
+      record {
+        positions = h .positions;
+        textures = h .textures;
+        normals = h .normals;
+        waiting = refl;
+        order = append-nil (l .gone ++ l .waiting) ∙ (ap (λ fs. l .gone ++ fs) (sym (h .waiting)) ∙ h .order);
+        counted = h .counted;
+        conserved = omega arith;
+      }
 
   settled-agrees : (v : Option LoadError) (q : Request) (a : Answer) (d : Contents) → Settled v c (granted c q) a d → Agrees (logged l q a) d × Plain a
   settled-agrees None q a d r =
@@ -81,27 +89,30 @@ module _ (l : Log) (c : Contents) (h : Agrees l c) where
 
   -- the mesh of an export, for what the log tells
   export-kept : (o : LoadOptions) (material : Option ℕ) (ms : Rooms) (ts : Capacities) → verdict o c ms ts ≡ None
-    → ExportKept l o material (written-faces o (c .waiting)) (skipped-faces o (c .waiting)) (exported o material ts c)
+      → ExportKept l o material (written-faces o (c .waiting)) (skipped-faces o (c .waiting)) (exported o material ts c)
   export-kept o material ms ts v =
       let p = promises o c ms ts v in
       let m = finished o c in
       let s : colourless (c .sources) ≡ told-sources l = cc (h .positions, h .textures, h .normals) in
       let one = colourless-promise o (c .sources) (corners-of (events o (c .waiting))) m (p .mesh) in
       let P : Sources → List (List VertexIndices) → Type 0 = λ src fs. MeshPromise o src (corners-of (events o fs)) m in
-      record { written = ap (written-faces o) (h .waiting)
-        ; skipped = ap (skipped-faces o) (h .waiting)
-        ; material-is = refl
-        ; mesh = subst (λ fs. P (told-sources l) fs) (h .waiting) (subst (λ src. P src (c .waiting)) s one)
-        ; arities = subst (λ fs. ArityPromise o fs m) (h .waiting) (p .arities) }
+      record {
+        written = ap (written-faces o) (h .waiting);
+        skipped = ap (skipped-faces o) (h .waiting);
+        material-is = refl;
+        mesh = subst (λ fs. P (told-sources l) fs) (h .waiting) (subst (λ src. P src (c .waiting)) s one);
+        arities = subst (λ fs. ArityPromise o fs m) (h .waiting) (p .arities);
+      }
 
   exports-keep : (o : LoadOptions) (material : Option ℕ) (ms : Rooms) (ts : Capacities) (v : Option LoadError) → verdict o c ms ts ≡ v → (a : Answer) (m : Left) (d : Contents)
-    → Exports v o material ts c a m d → Agrees (logged l (write-mesh o material ms ts) a) d × KeptExport l o material ts a m
+      → Exports v o material ts c a m d → Agrees (logged l (write-mesh o material ms ts) a) d × KeptExport l o material ts a m
   exports-keep o material ms ts None e a m d r =
       let q = write-mesh o material ms ts in
       let P : Answer → Type 0 = λ x. Agrees (logged l q x) d × KeptExport l o material ts x m in
-      subst P (sym (r .0))
-      (subst (λ x. Agrees (noted l q) x) (sym (r .2)) (granted-agrees q),
-        subst (λ x. ExportKept l o material (written-faces o (c .waiting)) (skipped-faces o (c .waiting)) x) (sym (r .1)) (export-kept o material ms ts e))
+      subst P (sym (r .0)) (
+        subst (λ x. Agrees (noted l q) x) (sym (r .2)) (granted-agrees q),
+        subst (λ x. ExportKept l o material (written-faces o (c .waiting)) (skipped-faces o (c .waiting)) x) (sym (r .1)) (export-kept o material ms ts e),
+      )
   exports-keep o material ms ts (Some x) e a m d r =
       let q = write-mesh o material ms ts in
       let P : Answer → Type 0 = λ y. Agrees (logged l q y) d × KeptExport l o material ts y m in

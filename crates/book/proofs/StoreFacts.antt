@@ -35,15 +35,15 @@ module _ {X : Type 0} (bits : X → List ℕ) (r s : Row X) (x : X) (b : List �
       ∙ ap (λ k. first ((leb (room r) k, BookFull) ∷ [])) (length-map (items r) bits ∙ length-items r)
 
   settles : (f : List (List ℕ) → Contents) (answer : Result Unit LoadError)
-    → Cases answer (λ _. Pushed r s x) (λ _. s ≡ r)
-    → Settled (refusal answer) (f (map bits (items r))) (f (map bits (items r) ++ b ∷ [])) (told answer) (f (map bits (items s)))
+      → Cases answer (λ _. Pushed r s x) (λ _. s ≡ r)
+      → Settled (refusal answer) (f (map bits (items r))) (f (map bits (items r) ++ b ∷ [])) (told answer) (f (map bits (items s)))
   settles f (Ok u) p = (refl, ap f (ap (map bits) (p .items) ∙ (map-push bits (items r) x ∙ ap (λ y. map bits (items r) ++ y ∷ []) same)))
   settles f (Err e) p = (refl, ap (λ t. f (map bits (items t))) p)
 
   pub stored-does : (f : List (List ℕ) → Contents) (nan : Bool) → nan ≡ false → (answer : Result Unit LoadError)
-    → refusal answer ≡ first ((leb (room r) (r .count), BookFull) ∷ [])
-    → Cases answer (λ _. Pushed r s x) (λ _. s ≡ r)
-    → Settled (first (append-checks nan (room r) (map bits (items r)))) (f (map bits (items r))) (f (map bits (items r) ++ b ∷ [])) (told answer) (f (map bits (items s)))
+      → refusal answer ≡ first ((leb (room r) (r .count), BookFull) ∷ [])
+      → Cases answer (λ _. Pushed r s x) (λ _. s ≡ r)
+      → Settled (first (append-checks nan (room r) (map bits (items r)))) (f (map bits (items r))) (f (map bits (items r) ++ b ∷ [])) (told answer) (f (map bits (items s)))
   stored-does f nan n answer e p =
       let P : Option LoadError → Type 0 = λ v. Settled v (f (map bits (items r))) (f (map bits (items r) ++ b ∷ [])) (told answer) (f (map bits (items s))) in
       subst P (e ∙ sym (verdict-is nan n)) (settles f answer p)

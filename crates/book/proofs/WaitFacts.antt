@@ -60,12 +60,12 @@ module _ (w : Waiting) (o : Option (List VertexIndices)) (text : List ℕ) where
 
 -- no corners, or no cells for them
 pub no-corners : (w : Waiting) (o : Option (List VertexIndices)) (text : List ℕ) → None ≡ appended o (w .corners .count) (room (w .corners))
-  → first (wait-checks (room (w .corners)) (room (w .faces)) (faces-of w) o text) ≡ first (full-checks o text)
+    → first (wait-checks (room (w .corners)) (room (w .faces)) (faces-of w) o text) ≡ first (full-checks o text)
 no-corners w None text h = refl
 no-corners w (Some xs) text h = go (leb (w .corners .count + length xs) (room (w .corners))) refl
   where
     go : (b : Bool) → leb (w .corners .count + length xs) (room (w .corners)) ≡ b
-      → first (wait-checks (room (w .corners)) (room (w .faces)) (faces-of w) (Some xs) text) ≡ first (full-checks (Some xs) text)
+        → first (wait-checks (room (w .corners)) (room (w .faces)) (faces-of w) (Some xs) text) ≡ first (full-checks (Some xs) text)
     go true e =
         let s : _≡_ {A = Option ℕ} None (Some (length xs)) = h ∙ ap (λ v. cond v (Some (length xs)) None) e in
         let z : _≡_ {A = ℕ} 0 1 = cc in absurd (omega arith)
@@ -76,13 +76,13 @@ no-corners w (Some xs) text h = go (leb (w .corners .count + length xs) (room (w
 
 -- a text that reads, with cells for all
 pub no-obstacle : (w : Waiting) (n : Counts) (text : List ℕ) (xs : List VertexIndices) → face n text ≡ Some xs → w .faces .count < room (w .faces) → w .corners .count + length xs ≤ room (w .corners)
-  → first (wait-checks (room (w .corners)) (room (w .faces)) (faces-of w) (face n text) text) ≡ None
+    → first (wait-checks (room (w .corners)) (room (w .faces)) (faces-of w) (face n text) text) ≡ None
 no-obstacle w n text xs is lf lc =
     let nf = faces-waiting w in
     let nc = corners-waiting w in
     let a : ascii text ≡ true = ⊎-elim (λ y. y) (λ z. (let q : _≡_ {A = Option (List VertexIndices)} (Some xs) None = sym is ∙ only-ascii n text z in let k : _≡_ {A = ℕ} 0 1 = cc in absurd (omega arith))) (cases-bool (ascii text)) in
     let third : (leb (room (w .faces)) (length (faces-of w)) || ltb (room (w .corners)) (length (all-corners (faces-of w)) + length xs)) ≡ false =
-          or-none _ _ (lt-leb (room (w .faces)) (length (faces-of w)) (omega arith)) (le-ltb (room (w .corners)) (length (all-corners (faces-of w)) + length xs) (omega arith)) in
+    or-none _ _ (lt-leb (room (w .faces)) (length (faces-of w)) (omega arith)) (le-ltb (room (w .corners)) (length (all-corners (faces-of w)) + length xs) (omega arith)) in
     let P : Option (List VertexIndices) → Type 0 = λ o. first (wait-checks (room (w .corners)) (room (w .faces)) (faces-of w) o text) ≡ None in
     subst P (sym is)
     (ap (λ b. first ((not b, NotAscii) ∷ (not (isSome (Some xs)), FaceParseError) ∷ (leb (room (w .faces)) (length (faces-of w)) || ltb (room (w .corners)) (length (all-corners (faces-of w)) + length xs), BookFull) ∷ [])) a

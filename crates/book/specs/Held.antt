@@ -34,12 +34,14 @@ use Rattle.book.specs.Rules.{Left}
 
 abbrev pub rooms : Book → BookRooms
 rooms b =
-    record { positions = room (b .attributes .positions)
-      ; colours = room (b .attributes .colours)
-      ; textures = room (b .attributes .textures)
-      ; normals = room (b .attributes .normals)
-      ; corners = room (b .waiting .corners)
-      ; faces = room (b .waiting .faces) }
+    record {
+      positions = room (b .attributes .positions);
+      colours = room (b .attributes .colours);
+      textures = room (b .attributes .textures);
+      normals = room (b .attributes .normals);
+      corners = room (b .waiting .corners);
+      faces = room (b .waiting .faces);
+    }
 
 abbrev pub contained : Book → Contents
 contained b = contents (b .attributes) (b .waiting)

@@ -80,13 +80,29 @@ noted l (add-colour x y z) = l
 noted l (add-texture u v) = with-elements l (l .positions) (l .textures ++ double-bits u v ∷ []) (l .normals)
 noted l (add-normal x y z) = with-elements l (l .positions) (l .textures) (l .normals ++ triple-bits x y z ∷ [])
 noted l (add-face text) =
-    record { positions = l .positions; textures = l .textures; normals = l .normals
-      ; waiting = l .waiting ++ face-told l text ∷ []; gone = l .gone; all = l .all ++ face-told l text ∷ []
-      ; granted = l .granted + 1; written = l .written; skipped = l .skipped }
+    record {
+      positions = l .positions;
+      textures = l .textures;
+      normals = l .normals;
+      waiting = l .waiting ++ face-told l text ∷ [];
+      gone = l .gone;
+      all = l .all ++ face-told l text ∷ [];
+      granted = l .granted + 1;
+      written = l .written;
+      skipped = l .skipped;
+    }
 noted l (write-mesh o material ms ts) =
-    record { positions = l .positions; textures = l .textures; normals = l .normals
-      ; waiting = []; gone = l .gone ++ l .waiting; all = l .all
-      ; granted = l .granted; written = l .written + written-faces o (l .waiting); skipped = l .skipped + skipped-faces o (l .waiting) }
+    record {
+      positions = l .positions;
+      textures = l .textures;
+      normals = l .normals;
+      waiting = [];
+      gone = l .gone ++ l .waiting;
+      all = l .all;
+      granted = l .granted;
+      written = l .written + written-faces o (l .waiting);
+      skipped = l .skipped + skipped-faces o (l .waiting);
+    }
 
 -- a refused call changes nothing
 abbrev pub logged : Log → Request → Answer → Log

@@ -123,8 +123,12 @@ cleared ts = record { surface = empty-surface; material = None; remap = 0; stock
 -- the mesh of all waiting faces, and tables with the keys that its numbers are places of; the tables by bits are empty
 abbrev pub exported : LoadOptions → Option ℕ → Capacities → Contents → Left
 exported o material ts c =
-    record { surface = finished o c; material = material; remap = 0
-      ; stock = record { keys = keyed o (c .sources) (corners-of (events o (c .waiting))); points = []; pairs = []; capacities = ts } }
+    record {
+      surface = finished o c;
+      material = material;
+      remap = 0;
+      stock = record { keys = keyed o (c .sources) (corners-of (events o (c .waiting))); points = []; pairs = []; capacities = ts };
+    }
 
 -- how many faces an export writes, and how many it skips
 abbrev pub written-faces : LoadOptions → List (List VertexIndices) → ℕ

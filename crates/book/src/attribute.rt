@@ -30,17 +30,42 @@ impl Book {
         ensures corners { λ r. ⌜ r .waiting .corners .cells ≡ cells .corners ⌝ }
         ensures faces { λ r. ⌜ r .waiting .faces .cells ≡ cells .faces ⌝ }
     {
-        let Cells { positions, colours, textures, normals, corners, faces } = cells;
+        let Cells {
+            positions,
+            colours,
+            textures,
+            normals,
+            corners,
+            faces,
+        } = cells;
         Book {
             attributes: Attributes {
-                positions: Row { cells: positions, count: 0 },
-                colours: Row { cells: colours, count: 0 },
-                textures: Row { cells: textures, count: 0 },
-                normals: Row { cells: normals, count: 0 },
+                positions: Row {
+                    cells: positions,
+                    count: 0,
+                },
+                colours: Row {
+                    cells: colours,
+                    count: 0,
+                },
+                textures: Row {
+                    cells: textures,
+                    count: 0,
+                },
+                normals: Row {
+                    cells: normals,
+                    count: 0,
+                },
             },
             waiting: Waiting {
-                corners: Row { cells: corners, count: 0 },
-                faces: Row { cells: faces, count: 0 },
+                corners: Row {
+                    cells: corners,
+                    count: 0,
+                },
+                faces: Row {
+                    cells: faces,
+                    count: 0,
+                },
             },
         }
     }

@@ -14,7 +14,12 @@ use mesh::mesh::Mesh;
 use mesh::numbering::Numbering;
 
 // One call on a book; an export writes into this mesh, by these tables.
-pub fn obey<N: Numbering>(book: &mut Book, mesh: &mut Mesh, tables: &mut N, call: Call<'_>) -> Answer
+pub fn obey<N: Numbering>(
+    book: &mut Book,
+    mesh: &mut Mesh,
+    tables: &mut N,
+    call: Call<'_>,
+) -> Answer
     ensures history { λ _. ⌜ History ⌝ }
     ensures cases { λ _. ⌜ Worked ⌝ }
     ensures rooms { λ _. ⌜ rooms-of (now (book .exit)) ≡ rooms-of (now (book .entry)) ⌝ }

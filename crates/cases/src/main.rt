@@ -29,12 +29,43 @@ use tables::key::ReferenceKey;
 use tables::searched::SearchedCornerTable;
 use tables::searched::SearchedTable;
 
-const NO_CORNER: VertexIndices = VertexIndices { v: MISSING_INDEX, vt: MISSING_INDEX, vn: MISSING_INDEX };
+const NO_CORNER: VertexIndices = VertexIndices {
+    v: MISSING_INDEX,
+    vt: MISSING_INDEX,
+    vn: MISSING_INDEX,
+};
 
-const PLAIN: LoadOptions = LoadOptions { single_index: false, triangulate: false, ignore_points: false, ignore_lines: false, merge_identical_points: false };
-const SINGLE: LoadOptions = LoadOptions { single_index: true, triangulate: false, ignore_points: false, ignore_lines: false, merge_identical_points: false };
-const TRIANGLES: LoadOptions = LoadOptions { single_index: false, triangulate: true, ignore_points: false, ignore_lines: false, merge_identical_points: false };
-const MERGED: LoadOptions = LoadOptions { single_index: false, triangulate: false, ignore_points: false, ignore_lines: false, merge_identical_points: true };
+const PLAIN: LoadOptions = LoadOptions {
+    single_index: false,
+    triangulate: false,
+    ignore_points: false,
+    ignore_lines: false,
+    merge_identical_points: false,
+};
+
+const SINGLE: LoadOptions = LoadOptions {
+    single_index: true,
+    triangulate: false,
+    ignore_points: false,
+    ignore_lines: false,
+    merge_identical_points: false,
+};
+
+const TRIANGLES: LoadOptions = LoadOptions {
+    single_index: false,
+    triangulate: true,
+    ignore_points: false,
+    ignore_lines: false,
+    merge_identical_points: false,
+};
+
+const MERGED: LoadOptions = LoadOptions {
+    single_index: false,
+    triangulate: false,
+    ignore_points: false,
+    ignore_lines: false,
+    merge_identical_points: true,
+};
 
 // Corners and points are found by hashing, the others from the front.
 type CaseTables = Tables<
@@ -55,7 +86,12 @@ struct Held {
     normals: u8,
 }
 
-const THREE: Held = Held { positions: 3, colours: 0, textures: 3, normals: 3 };
+const THREE: Held = Held {
+    positions: 3,
+    colours: 0,
+    textures: 3,
+    normals: 3,
+};
 
 fn blank_book(heap: Global) -> Result<Book, AllocError> {
     Ok(Book::new(book::cells::Cells {
@@ -141,7 +177,14 @@ fn print_mesh(rt: &LibcRuntime, mesh: &Mesh) -> Result<(), AnyError> {
 }
 
 // One case: these texts into a book, and an export of it.
-fn export_case(rt: &LibcRuntime, name: &str, book: &mut Book, corners: usize, texts: &[&[u8]], options: LoadOptions) -> Result<(), AnyError> {
+fn export_case(
+    rt: &LibcRuntime,
+    name: &str,
+    book: &mut Book,
+    corners: usize,
+    texts: &[&[u8]],
+    options: LoadOptions,
+) -> Result<(), AnyError> {
     let heap = rt.alloc();
     let mut mesh = blank_mesh(heap)?;
     let mut tables = case_tables(heap, corners)?;
@@ -160,7 +203,14 @@ fn export_case(rt: &LibcRuntime, name: &str, book: &mut Book, corners: usize, te
     Ok(())
 }
 
-fn held_case(rt: &LibcRuntime, name: &str, held: Held, corners: usize, texts: &[&[u8]], options: LoadOptions) -> Result<(), AnyError> {
+fn held_case(
+    rt: &LibcRuntime,
+    name: &str,
+    held: Held,
+    corners: usize,
+    texts: &[&[u8]],
+    options: LoadOptions,
+) -> Result<(), AnyError> {
     let mut book = blank_book(rt.alloc())?;
     fill(&mut book, held);
     export_case(rt, name, &mut book, corners, texts, options)
@@ -168,7 +218,11 @@ fn held_case(rt: &LibcRuntime, name: &str, held: Held, corners: usize, texts: &[
 
 // A token read on its own, with three elements of each kind.
 fn reading_case(rt: &LibcRuntime, token: &str) -> Result<(), AnyError> {
-    let counts = Counts { positions: 3, textures: 3, normals: 3 };
+    let counts = Counts {
+        positions: 3,
+        textures: 3,
+        normals: 3,
+    };
     match VertexIndices::parse(token.as_bytes(), counts) {
         Some(corner) => {
             let v = corner.v;
@@ -182,7 +236,20 @@ fn reading_case(rt: &LibcRuntime, token: &str) -> Result<(), AnyError> {
 }
 
 fn reading_cases(rt: &LibcRuntime) -> Result<(), AnyError> {
-    let tokens = ["1/2/3", "1//3", "-1", "-4", "-5", "0", "1/2/3//", "1/2/3/4", "+2", "+", "9223372036854775807", "9223372036854775808"];
+    let tokens = [
+        "1/2/3",
+        "1//3",
+        "-1",
+        "-4",
+        "-5",
+        "0",
+        "1/2/3//",
+        "1/2/3/4",
+        "+2",
+        "+",
+        "9223372036854775807",
+        "9223372036854775808",
+    ];
     for token in tokens {
         reading_case(rt, token)?;
     }
@@ -190,7 +257,12 @@ fn reading_cases(rt: &LibcRuntime) -> Result<(), AnyError> {
 }
 
 fn unfolding_cases(rt: &LibcRuntime) -> Result<(), AnyError> {
-    let four = Held { positions: 4, colours: 0, textures: 3, normals: 3 };
+    let four = Held {
+        positions: 4,
+        colours: 0,
+        textures: 3,
+        normals: 3,
+    };
     held_case(rt, "reference 0", THREE, 16, &[b"0"], PLAIN)?;
     held_case(rt, "a fan", four, 16, &[b"1 2 3 4"], TRIANGLES)?;
     held_case(rt, "a point", THREE, 16, &[b"2"], TRIANGLES)?;
@@ -200,15 +272,51 @@ fn unfolding_cases(rt: &LibcRuntime) -> Result<(), AnyError> {
 }
 
 fn numbering_cases(rt: &LibcRuntime) -> Result<(), AnyError> {
-    let two_textures = Held { positions: 3, colours: 0, textures: 2, normals: 3 };
-    let two_normals = Held { positions: 3, colours: 0, textures: 3, normals: 2 };
-    let one_colour = Held { positions: 3, colours: 1, textures: 3, normals: 3 };
-    held_case(rt, "normals apart", THREE, 16, &[b"1//1 2//1 3//1", b"1//2 3//2 2//2"], SINGLE)?;
-    held_case(rt, "fillers", THREE, 16, &[b"1 2 3", b"1/1 2/2 3/3"], SINGLE)?;
+    let two_textures = Held {
+        positions: 3,
+        colours: 0,
+        textures: 2,
+        normals: 3,
+    };
+    let two_normals = Held {
+        positions: 3,
+        colours: 0,
+        textures: 3,
+        normals: 2,
+    };
+    let one_colour = Held {
+        positions: 3,
+        colours: 1,
+        textures: 3,
+        normals: 3,
+    };
+    held_case(
+        rt,
+        "normals apart",
+        THREE,
+        16,
+        &[b"1//1 2//1 3//1", b"1//2 3//2 2//2"],
+        SINGLE,
+    )?;
+    held_case(
+        rt,
+        "fillers",
+        THREE,
+        16,
+        &[b"1 2 3", b"1/1 2/2 3/3"],
+        SINGLE,
+    )?;
     held_case(rt, "carried over", two_textures, 16, &[b"1 2/2 3"], PLAIN)?;
     held_case(rt, "a third corner", THREE, 2, &[b"1 2 3"], SINGLE)?;
     held_case(rt, "the first corner again", THREE, 2, &[b"1 2 1"], SINGLE)?;
-    held_case(rt, "a normal far out", two_normals, 16, &[b"1//6148914691236517207"], PLAIN)?;
+    held_case(
+        rt,
+        "a normal far out",
+        two_normals,
+        16,
+        &[b"1//6148914691236517207"],
+        PLAIN,
+    )?;
     held_case(rt, "one colour", one_colour, 16, &[b"1 2 3"], PLAIN)
 }
 

@@ -30,10 +30,16 @@ fn small(heap: Global) -> Result<Book, Fail> {
 fn full_lists(rt: LibcRuntime) -> Result<(), Fail> {
     let mut book = small(rt.alloc())?;
     check_eq(book.position(1.0 / 0.0, -0.0, -1.0 / 0.0), Ok(()))?;
-    check_eq(book.position(0.0, 0.0 / 0.0, 0.0), Err(LoadError::NotANumber))?;
+    check_eq(
+        book.position(0.0, 0.0 / 0.0, 0.0),
+        Err(LoadError::NotANumber),
+    )?;
     check_eq(book.position(0.0, 0.0, 0.0), Ok(()))?;
     check_eq(book.position(0.0, 0.0, 0.0), Err(LoadError::BookFull))?;
-    check_eq(book.position(0.0 / 0.0, 0.0, 0.0), Err(LoadError::NotANumber))?;
+    check_eq(
+        book.position(0.0 / 0.0, 0.0, 0.0),
+        Err(LoadError::NotANumber),
+    )?;
     check_eq(book.texture(0.0, 0.0), Err(LoadError::BookFull))?;
     check_eq(book.colour(0.0, 0.0, 0.0), Ok(()))?;
     check_eq(book.colour(0.0, 0.0, 0.0), Err(LoadError::BookFull))?;

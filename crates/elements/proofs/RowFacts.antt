@@ -27,8 +27,8 @@ module _ {X : Type 0} (r : Row X) where
   item-at at d l = getD-take (r .count) (held r) at d l
 
   pub got : (at : ℕ) (xs : List X) (o : Option X) → xs ≡ held r
-    → Cases o (min (r .count) (room-of (length xs)) ≤ at) (λ x. (at < min (r .count) (room-of (length xs))) × (x ≡ getD xs at x))
-    → Cases o (r .count ≤ at) (λ x. (at < r .count) × (x ≡ getD (items r) at x))
+      → Cases o (min (r .count) (room-of (length xs)) ≤ at) (λ x. (at < min (r .count) (room-of (length xs))) × (x ≡ getD xs at x))
+      → Cases o (r .count ≤ at) (λ x. (at < r .count) × (x ≡ getD (items r) at x))
   got at xs None e h = let n = ap length e in let f = r .fits in omega arith
   got at xs (Some x) e h =
       let l : at < r .count = omega arith in
@@ -52,12 +52,14 @@ module _ {X : Type 0} (r : Row X) where
     pushed-fits = let n = ap length refill ∙ length-set (held r) (r .count) x in omega arith
 
     pub pushed : (f : r .count + 1 ≤ room-of (length (refilled (r .cells) ws .items)))
-      → Pushed r (record { cells = refilled (r .cells) ws; count = r .count + 1; fits = f }) x
+        → Pushed r (record { cells = refilled (r .cells) ws; count = r .count + 1; fits = f }) x
     pushed f =
-        record { cells = refill
-          ; count = refl
-          ; items = ap (take (r .count + 1)) refill ∙ take-more-set (held r) (r .count) x (omega arith)
-          ; room = ap (λ ys. room-of (length ys)) refill ∙ ap room-of (length-set (held r) (r .count) x) }
+        record {
+          cells = refill;
+          count = refl;
+          items = ap (take (r .count + 1)) refill ∙ take-more-set (held r) (r .count) x (omega arith);
+          room = ap (λ ys. room-of (length ys)) refill ∙ ap room-of (length-set (held r) (r .count) x);
+        }
 
   -- what is left after every cell was blanked
   pub blanked-refill : (xs ws : List X) (z : X) → xs ≡ held r → ws ≡ blanked xs z → refilled (r .cells) ws .items ≡ blanked (held r) z

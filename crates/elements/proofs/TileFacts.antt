@@ -120,8 +120,8 @@ module _ (w : Waiting) where
 
   -- a face more, with the corners xs after all others
   pub faces-more : (cs : List VertexIndices) (fs : List Face) (xs : List VertexIndices)
-    → cs ≡ items (w .corners) ++ xs → fs ≡ items (w .faces) ++ (record { start = w .corners .count; count = length xs }) ∷ []
-    → map (part cs) fs ≡ faces-of w ++ xs ∷ []
+      → cs ≡ items (w .corners) ++ xs → fs ≡ items (w .faces) ++ (record { start = w .corners .count; count = length xs }) ∷ []
+      → map (part cs) fs ≡ faces-of w ++ xs ∷ []
   faces-more cs fs xs ec ef =
       let l = length-items (w .corners) in
       let new : Face = record { start = w .corners .count; count = length xs } in

@@ -29,10 +29,12 @@ nothing = record { sources = record { positions = []; colours = []; textures = [
 
 abbrev pub sources : Attributes → Sources
 sources a =
-    record { positions = map point-bits (items (a .positions))
-      ; colours = map point-bits (items (a .colours))
-      ; textures = map pair-bits (items (a .textures))
-      ; normals = map point-bits (items (a .normals)) }
+    record {
+      positions = map point-bits (items (a .positions));
+      colours = map point-bits (items (a .colours));
+      textures = map pair-bits (items (a .textures));
+      normals = map point-bits (items (a .normals));
+    }
 
 abbrev pub faces-of : Waiting → List (List VertexIndices)
 faces-of w = map (part (items (w .corners))) (items (w .faces))

@@ -1,11 +1,11 @@
+pub mod attributes;
+pub mod corner;
 pub mod error;
 pub mod errors;
+pub mod list;
 pub mod options;
-pub mod corner;
 pub mod point;
 pub mod points;
-pub mod list;
 pub mod row;
 pub mod rows;
-pub mod attributes;
 pub mod waiting;

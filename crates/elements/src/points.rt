@@ -11,7 +11,11 @@ use crate::point::Point;
 
 impl Point {
     // Three zeros: what fills a place that has no point.
-    pub const ZERO: Point = Point { x: 0.0, y: 0.0, z: 0.0 };
+    pub const ZERO: Point = Point {
+        x: 0.0,
+        y: 0.0,
+        z: 0.0,
+    };
 
     // These three numbers, refused if one of them is NaN.
     pub fn new(x: f32, y: f32, z: f32) -> Result<Point, LoadError>

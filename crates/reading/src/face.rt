@@ -48,7 +48,12 @@ pub fn count_corners(text: &[u8]) -> Option<usize>
 
 // Writes the corners of a face text after the first `start` cells of a list, and says how many there were:
 // a text that does not read or does not fit changes no cell.
-pub fn parse_face(text: &[u8], counts: Counts, cells: &mut [VertexIndices], start: usize) -> Option<usize>
+pub fn parse_face(
+    text: &[u8],
+    counts: Counts,
+    cells: &mut [VertexIndices],
+    start: usize,
+) -> Option<usize>
     ensures answer { λ r. ⌜ r ≡ appended (face counts (now (text .entry))) start (room-of (length (now (cells .entry)))) ⌝ }
     ensures granted { λ r. ⌜ Granted (face counts (now (text .entry))) start (now (cells .entry)) (now (cells .exit)) r ⌝ }
     ensures refused { λ r. ⌜ (r ≡ None → now (cells .exit) ≡ now (cells .entry)) ⌝ }

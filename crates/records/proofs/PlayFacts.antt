@@ -50,12 +50,12 @@ kind-stands ms ts bs (Export n) a = let s = a .0 in let m = a .1 .1 in kind-at b
 -- ---- lists of records
 
 recorded-more : (ms : Rooms) (ts : Capacities) (tape : List ℕ) (qs : List Request) (rest : List ℕ) (r : Record) (q : Request)
-  → Recorded ms ts tape qs rest → Asks ms ts rest r q → Recorded ms ts tape (qs ++ q ∷ []) (drop (size r) rest)
+    → Recorded ms ts tape qs rest → Asks ms ts rest r q → Recorded ms ts tape (qs ++ q ∷ []) (drop (size r) rest)
 recorded-more ms ts tape [] rest r q e a = (r, subst (λ bs. Asks ms ts bs r q) e a, ap (drop (size r)) e)
 recorded-more ms ts tape (p ∷ qs) rest r q h a = (h .0, h .1, recorded-more ms ts (drop (size (h .0)) tape) qs rest r q (h .2) a)
 
 report-more : (qs : List Request) (answers : List Answer) (meshes : List Left) (q : Request) (a : Answer) (m : Left) → length qs ≡ length answers → length qs ≡ length meshes
-  → report (qs ++ q ∷ []) (answers ++ a ∷ []) (meshes ++ m ∷ []) ≡ report qs answers meshes ++ line-of (kind-number q) a m ∷ []
+    → report (qs ++ q ∷ []) (answers ++ a ∷ []) (meshes ++ m ∷ []) ≡ report qs answers meshes ++ line-of (kind-number q) a m ∷ []
 report-more [] [] [] q a m e f = refl
 report-more [] [] (n ∷ ns) q a m e f = absurd (omega arith)
 report-more [] (b ∷ bs) ns q a m e f = absurd (omega arith)
@@ -91,14 +91,27 @@ pub record Going (rs : BookRooms) (ms : Rooms) (ts : Capacities) (p : Past) (m :
 
 pub going-none : (rs : BookRooms) (ms : Rooms) (ts : Capacities) (p : Past) (m : Left) (tape : List ℕ) (c : Contents) → Reaches rs p c → Going rs ms ts p m tape tape [] c m
 going-none rs ms ts p m tape c r =
-    record { requests = []; answers = []; meshes = []; paired = refl; paired-meshes = refl; recorded = refl; past = p
-      ; asked = sym (append-nil (asks p)); answered = sym (append-nil (answers-of p)); left = sym (append-nil (meshes-of p)); reached = r; held = λ before e. e; written-is = refl }
+    record {
+      requests = [];
+      answers = [];
+      meshes = [];
+      paired = refl;
+      paired-meshes = refl;
+      recorded = refl;
+      past = p;
+      asked = sym (append-nil (asks p));
+      answered = sym (append-nil (answers-of p));
+      left = sym (append-nil (meshes-of p));
+      reached = r;
+      held = λ before e. e;
+      written-is = refl;
+    }
 
 module _ (rs : BookRooms) (ms : Rooms) (ts : Capacities) (p : Past) (m : Left) (tape rest : List ℕ) (lines : List Line) (i : ℕ) (c : Contents) (l : i < length lines) where
   pub going-more : (rs′ : BookRooms) (ms′ : Rooms) (ts′ : Capacities) (after : List ℕ) (d : Contents) (r : Record) (q : Request) (k : ℕ) (a : Answer) (x : Line) (old new : Left)
-    → rs′ ≡ rs → q ≡ heard ms ts rest r → k ≡ kind-of rest → Stands rest r → after ≡ drop (size r) rest → x ≡ line-of k a new
-    → Untouched q old new → Does rs′ c q a new d
-    → Going rs ms ts p m tape rest (take i lines) c old → Going rs ms ts p m tape after (take (i + 1) (set lines i x)) d new
+      → rs′ ≡ rs → q ≡ heard ms ts rest r → k ≡ kind-of rest → Stands rest r → after ≡ drop (size r) rest → x ≡ line-of k a new
+      → Untouched q old new → Does rs′ c q a new d
+      → Going rs ms ts p m tape rest (take i lines) c old → Going rs ms ts p m tape after (take (i + 1) (set lines i x)) d new
   going-more rs′ ms′ ts′ after d r q k a x old new er eq ek s ea ex untouched does g =
       let here : Reaches rs (more (g .past) (record { asked = q; answer = a; mesh = new })) d = (c, g .reached, subst (λ v. Does v c q a new d) er does) in
       let e : k ≡ kind-number q = ek ∙ (kind-stands ms ts rest r s ∙ ap kind-number (sym eq)) in
@@ -107,31 +120,45 @@ module _ (rs : BookRooms) (ms : Rooms) (ts : Capacities) (p : Past) (m : Left) (
       let three = length-push (g .meshes) new in
       let pa = g .paired in
       let pm = g .paired-meshes in
-      record { requests = g .requests ++ q ∷ []
-        ; answers = g .answers ++ a ∷ []
-        ; meshes = g .meshes ++ new ∷ []
-        ; paired = omega arith
-        ; paired-meshes = omega arith
-        ; recorded = subst (Recorded ms ts tape (g .requests ++ q ∷ [])) (sym ea) (recorded-more ms ts tape (g .requests) rest r q (g .recorded) (s, eq))
-        ; past = more (g .past) (record { asked = q; answer = a; mesh = new })
-        ; asked = ap (λ xs. xs ++ q ∷ []) (g .asked) ∙ append-assoc (asks p) (g .requests) (q ∷ [])
-        ; answered = ap (λ xs. xs ++ a ∷ []) (g .answered) ∙ append-assoc (answers-of p) (g .answers) (a ∷ [])
-        ; left = ap (λ xs. xs ++ new ∷ []) (g .left) ∙ append-assoc (meshes-of p) (g .meshes) (new ∷ [])
-        ; reached = here
-        ; held = λ before b. ap (λ v. after-request q v new) (g .held before b) ∙ left-after q old new untouched
-        ; written-is = take-more-set lines i x l
+      record {
+        requests = g .requests ++ q ∷ [];
+        answers = g .answers ++ a ∷ [];
+        meshes = g .meshes ++ new ∷ [];
+        paired = omega arith;
+        paired-meshes = omega arith;
+        recorded = subst (Recorded ms ts tape (g .requests ++ q ∷ [])) (sym ea) (recorded-more ms ts tape (g .requests) rest r q (g .recorded) (s, eq));
+        past = more (g .past) (record { asked = q; answer = a; mesh = new });
+        asked = ap (λ xs. xs ++ q ∷ []) (g .asked) ∙ append-assoc (asks p) (g .requests) (q ∷ []);
+        answered = ap (λ xs. xs ++ a ∷ []) (g .answered) ∙ append-assoc (answers-of p) (g .answers) (a ∷ []);
+        left = ap (λ xs. xs ++ new ∷ []) (g .left) ∙ append-assoc (meshes-of p) (g .meshes) (new ∷ []);
+        reached = here;
+        held = λ before b. ap (λ v. after-request q v new) (g .held before b) ∙ left-after q old new untouched;
+        written-is = take-more-set lines i x l
             ∙ (ap (λ ls. ls ++ x ∷ []) (g .written-is)
             ∙ (ap (λ y. report (g .requests) (g .answers) (g .meshes) ++ y ∷ []) (ex ∙ ap (λ n. line-of n a new) e)
-            ∙ sym (report-more (g .requests) (g .answers) (g .meshes) q a new pa pm))) }
+            ∙ sym (report-more (g .requests) (g .answers) (g .meshes) q a new pa pm)));
+      }
 
 -- ---- the three ends
 
 played-so : (rs : BookRooms) (ms : Rooms) (ts : Capacities) (p : Past) (m : Left) (tape rest : List ℕ) (told written : List Line) (room : ℕ) (c : Contents) (n : Left)
-  → (g : Going rs ms ts p m tape rest told c n) → Ended rest (report (g .requests) (g .answers) (g .meshes)) written room → Played rs ms ts p m tape written room c n
+    → (g : Going rs ms ts p m tape rest told c n) → Ended rest (report (g .requests) (g .answers) (g .meshes)) written room → Played rs ms ts p m tape written room c n
 played-so rs ms ts p m tape rest told written room c n g e =
-    record { requests = g .requests; answers = g .answers; meshes = g .meshes; rest = rest; recorded = g .recorded; past = g .past
-      ; asked = g .asked; answered = g .answered; left = g .left; reached = g .reached
-      ; promised = history rs (g .past) c (g .reached); held = g .held; ended = e }
+    record {
+      requests = g .requests;
+      answers = g .answers;
+      meshes = g .meshes;
+      rest = rest;
+      recorded = g .recorded;
+      past = g .past;
+      asked = g .asked;
+      answered = g .answered;
+      left = g .left;
+      reached = g .reached;
+      promised = history rs (g .past) c (g .reached);
+      held = g .held;
+      ended = e;
+    }
 
 module _ (rs : BookRooms) (ms : Rooms) (ts : Capacities) (p : Past) (m : Left) (tape rest : List ℕ) (c : Contents) (n : Left) where
   pub played-all : (written : List Line) (room : ℕ) → length rest ≤ 0 → Going rs ms ts p m tape rest written c n → Played rs ms ts p m tape written room c n
@@ -142,8 +169,8 @@ module _ (rs : BookRooms) (ms : Rooms) (ts : Capacities) (p : Past) (m : Left) (
       played-so rs ms ts p m tape rest (take i lines) (take i lines) room c n g (inr (inr (length-take-le i lines l ∙ (let k : i ≡ room = omega arith in k), g .written-is)))
 
   pub played-bad : (lines : List Line) (i room k : ℕ) → i < length lines → k ≡ kind-of rest → Unreadable rest
-    → Going rs ms ts p m tape rest (take i lines) c n
-    → Played rs ms ts p m tape (take (i + 1) (set lines i (record { kind = k; answer = Refused BadRecord; indices = 0; positions = 0 }))) room c n
+      → Going rs ms ts p m tape rest (take i lines) c n
+      → Played rs ms ts p m tape (take (i + 1) (set lines i (record { kind = k; answer = Refused BadRecord; indices = 0; positions = 0 }))) room c n
   played-bad lines i room k l ek u g =
       let line : ℕ → Line = λ j. record { kind = j; answer = Refused BadRecord; indices = 0; positions = 0 } in
       played-so rs ms ts p m tape rest (take i lines) _ room c n g
@@ -156,7 +183,7 @@ kept-more old lines n x e =
 
 -- the counts of a mesh's lists are their lengths
 pub line-told : (k : ℕ) (a : Answer) (w s : ℕ) (m : Mesh) (t : Stock) (i j : ℕ) → a ≡ Exported w s → i ≡ m .lists .indices .count → j ≡ m .lists .positions .count
-  → _≡_ {A = Line} (record { kind = k; answer = a; indices = i; positions = j }) (line-of k a (left m t))
+    → _≡_ {A = Line} (record { kind = k; answer = a; indices = i; positions = j }) (line-of k a (left m t))
 line-told k a w s m t i j e ei ej =
     let n = left m t in
     let li = length-items (m .lists .indices) in

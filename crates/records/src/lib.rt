@@ -1,5 +1,5 @@
-pub mod record;
-mod word;
 pub mod layout;
 pub mod line;
 pub mod play;
+pub mod record;
+mod word;

@@ -25,7 +25,13 @@ use mesh::numbering::Numbering;
 
 // Plays a tape on a book, as far as it is readable and a line is left for each record, and says how many lines it wrote.
 // Exports write into this mesh, by these tables.
-pub fn play<N: Numbering>(book: &mut Book, mesh: &mut Mesh, tables: &mut N, tape: &[u8], lines: &mut [Line]) -> usize
+pub fn play<N: Numbering>(
+    book: &mut Book,
+    mesh: &mut Mesh,
+    tables: &mut N,
+    tape: &[u8],
+    lines: &mut [Line],
+) -> usize
     ensures history { λ _. ⌜ History ⌝ }
     ensures rooms { λ _. ⌜ rooms-of (now (book .exit)) ≡ rooms-of (now (book .entry)) ⌝ }
     ensures mesh_rooms { λ _. ⌜ mesh-rooms (now (mesh .exit) .lists) ≡ mesh-rooms (now (mesh .entry) .lists) ⌝ }
@@ -35,14 +41,19 @@ pub fn play<N: Numbering>(book: &mut Book, mesh: &mut Mesh, tables: &mut N, tape
     ensures kept { λ n. ⌜ drop n (now (lines .exit)) ≡ drop n (now (lines .entry)) ⌝ }
     ensures played { λ n. ⌜ ((p : Past) → Reaches (rooms-of (now (book .entry))) p (contained (now (book .entry))) →
         Played (rooms-of (now (book .entry))) (mesh-rooms (now (mesh .entry) .lists)) (N·Numbering .stock (now (tables .entry)) .capacities) p (left (now (mesh .entry)) (N·Numbering .stock (now (tables .entry))))
-            (now (tape .entry)) (take n (now (lines .exit))) (length (now (lines .entry))) (contained (now (book .exit))) (left (now (mesh .exit)) (N·Numbering .stock (now (tables .exit))))) ⌝ }
+        (now (tape .entry)) (take n (now (lines .exit))) (length (now (lines .entry))) (contained (now (book .exit))) (left (now (mesh .exit)) (N·Numbering .stock (now (tables .exit))))) ⌝ }
 {
     let mut rest = tape;
     let mut count = 0;
     while count < lines.len() && rest.len() > 0 {
         let kind = kind(rest);
         let Some((call, after)) = next(rest) else {
-            lines[count] = Line { kind, answer: Answer::Refused(LoadError::BadRecord), indices: 0, positions: 0 };
+            lines[count] = Line {
+                kind,
+                answer: Answer::Refused(LoadError::BadRecord),
+                indices: 0,
+                positions: 0,
+            };
             return count + 1;
         };
         let answer = obey(book, mesh, tables, call);
@@ -91,8 +102,18 @@ fn line(kind: u8, answer: Answer, mesh: &Mesh) -> Line
     match answer {
         Answer::Exported(..) => {
             let lists = mesh.lists();
-            Line { kind, answer, indices: lists.indices.len(), positions: lists.positions.len() }
+            Line {
+                kind,
+                answer,
+                indices: lists.indices.len(),
+                positions: lists.positions.len(),
+            }
         }
-        _ => Line { kind, answer, indices: 0, positions: 0 },
+        _ => Line {
+            kind,
+            answer,
+            indices: 0,
+            positions: 0,
+        },
     }
 }

@@ -44,7 +44,11 @@ type HashedTables = Tables<
     HashedTable<Pair>,
 >;
 
-const NO_CORNER: VertexIndices = VertexIndices { v: MISSING_INDEX, vt: MISSING_INDEX, vn: MISSING_INDEX };
+const NO_CORNER: VertexIndices = VertexIndices {
+    v: MISSING_INDEX,
+    vt: MISSING_INDEX,
+    vn: MISSING_INDEX,
+};
 
 fn blank_book(heap: Global) -> Result<Book, AllocError> {
     Ok(Book::new(book::cells::Cells {
@@ -137,12 +141,23 @@ fn run(rt: &LibcRuntime) -> Result<(), AnyError> {
     let Ok(mut tape) = vec![in heap; 0u8; MOST_BYTES] else {
         return Err("tape: no memory for the tape".into());
     };
-    let blank = Line { kind: 0, answer: Answer::Done, indices: 0, positions: 0 };
+    let blank = Line {
+        kind: 0,
+        answer: Answer::Done,
+        indices: 0,
+        positions: 0,
+    };
     let Ok(mut lines) = vec![in heap; blank; MOST_LINES] else {
         return Err("tape: no memory for the answers".into());
     };
     let bytes = read_tape(rt, &mut tape)?;
-    let count = play(&mut book, &mut mesh, &mut tables, &tape[0..bytes], &mut lines);
+    let count = play(
+        &mut book,
+        &mut mesh,
+        &mut tables,
+        &tape[0..bytes],
+        &mut lines,
+    );
     print_lines(rt, &lines[0..count])
 }
 

@@ -26,10 +26,13 @@ returns-in-rest c =
     let o = face (c .args .counts) (c .args .text .now) in
     let h = c .in-rest .ensures tt in
     let k = h .kept refl in
-    record { refused = sym (no-corners w o (c .args .text .now) (h .answer) ∙ c .refused-in-rest .ensures (c .args .counts))
-      ; faces = faces-kept w (c .append-corners .last .row) (k .0) (k .1)
-      ; cells = (k .0, k .1, refl)
-      ; corner-room = c .append-corners .ensures .room; face-room = refl }
+    record {
+      refused = sym (no-corners w o (c .args .text .now) (h .answer) ∙ c .refused-in-rest .ensures (c .args .counts));
+      faces = faces-kept w (c .append-corners .last .row) (k .0) (k .1);
+      cells = (k .0, k .1, refl);
+      corner-room = c .append-corners .ensures .room;
+      face-room = refl;
+    }
 
 pub ghost-waiting-2 : need.ghost-waiting-2
 ghost-waiting-2 c =
@@ -49,10 +52,14 @@ returns c =
     let pushed = c .push .ensures .granted (c .push .ensures .tells ∙ lt-ltb _ _ l) in
     let more = h .granted (f .xs) (f .is) (f .fits) in
     let xs-is : f .xs ≡ valueOr (face (c .args .counts) (c .args .text .now)) [] = ap (λ o. valueOr o []) (sym (f .is)) in
-    record { refused = sym (no-obstacle w (c .args .counts) (c .args .text .now) (f .xs) (f .is) l (f .fits))
-      ; faces = faces-added w (c .append-corners .last .row) (c .push .last .self) (f .xs) (c .in-Some .count) (f .count) more pushed ∙ ap (λ xs. faces-of w ++ xs ∷ []) xs-is
-      ; cells = (more .cells ∙ ap (λ xs. written xs (w .corners .count) (held (w .corners))) xs-is
-          , face-cell w (c .append-corners .last .row) (c .push .last .self) (f .xs) (c .in-Some .count) (f .count) more pushed
-              ∙ ap (λ xs. set (held (w .faces)) (w .faces .count) (record { start = w .corners .count; count = length xs })) xs-is)
-      ; corner-room = c .append-corners .ensures .room
-      ; face-room = c .push .ensures .room }
+    record {
+      refused = sym (no-obstacle w (c .args .counts) (c .args .text .now) (f .xs) (f .is) l (f .fits));
+      faces = faces-added w (c .append-corners .last .row) (c .push .last .self) (f .xs) (c .in-Some .count) (f .count) more pushed ∙ ap (λ xs. faces-of w ++ xs ∷ []) xs-is;
+      cells = (
+        more .cells ∙ ap (λ xs. written xs (w .corners .count) (held (w .corners))) xs-is,
+        face-cell w (c .append-corners .last .row) (c .push .last .self) (f .xs) (c .in-Some .count) (f .count) more pushed
+            ∙ ap (λ xs. set (held (w .faces)) (w .faces .count) (record { start = w .corners .count; count = length xs })) xs-is,
+      );
+      corner-room = c .append-corners .ensures .room;
+      face-room = c .push .ensures .room;
+    }

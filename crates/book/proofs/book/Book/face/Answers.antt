@@ -17,7 +17,9 @@ returns c =
     let n : Counts = record { positions = b .attributes .positions .count; textures = b .attributes .textures .count; normals = b .attributes .normals .count } in
     let h = c .wait .ensures in
     let with-rooms : ℕ → ℕ → BookRooms = λ i j. record { positions = rooms b .positions; colours = rooms b .colours; textures = rooms b .textures; normals = rooms b .normals; corners = i; faces = j } in
-    record { rooms = cc
-      ; does = face-does (room (b .waiting .corners)) (room (b .waiting .faces)) (contained b) (c .args .text .now) n (counts-are (b .attributes)) (c .wait .result) _ (h .refused) (h .faces)
-      ; cells = subst (λ m. Awaits (refusal (c .wait .result)) (b .waiting) (c .wait .last .waiting) (valueOr (face m (c .args .text .now)) [])) (counts-are (b .attributes)) (h .cells)
-      ; others = refl }
+    record {
+      rooms = cc;
+      does = face-does (room (b .waiting .corners)) (room (b .waiting .faces)) (contained b) (c .args .text .now) n (counts-are (b .attributes)) (c .wait .result) _ (h .refused) (h .faces);
+      cells = subst (λ m. Awaits (refusal (c .wait .result)) (b .waiting) (c .wait .last .waiting) (valueOr (face m (c .args .text .now)) [])) (counts-are (b .attributes)) (h .cells);
+      others = refl;
+    }

@@ -17,7 +17,9 @@ returns c =
     let same : point-bits (c .in-Continue-point .point) ≡ triple-bits (c .args .x) (c .args .y) (c .args .z) = cc in
     let with-list : List (List ℕ) → Contents = λ xs. record { sources = record { positions = xs; colours = contained b .sources .colours; textures = contained b .sources .textures; normals = contained b .sources .normals }; waiting = contained b .waiting } in
     let with-room : ℕ → BookRooms = λ n. record { positions = n; colours = rooms b .colours; textures = rooms b .textures; normals = rooms b .normals; corners = rooms b .corners; faces = rooms b .faces } in
-    record { rooms = ap with-room (c .store .ensures .room)
-      ; does = stored-does point-bits (b .attributes .positions) (c .store .last .row) (c .in-Continue-point .point) _ same with-list _ number (c .store .result) (c .store .ensures .refused) (c .store .ensures .stored)
-      ; cells = stored-cells point-bits (b .attributes .positions) (c .store .last .row) (c .in-Continue-point .point) _ same (c .store .result) (c .store .ensures .stored)
-      ; others = refl }
+    record {
+      rooms = ap with-room (c .store .ensures .room);
+      does = stored-does point-bits (b .attributes .positions) (c .store .last .row) (c .in-Continue-point .point) _ same with-list _ number (c .store .result) (c .store .ensures .refused) (c .store .ensures .stored);
+      cells = stored-cells point-bits (b .attributes .positions) (c .store .last .row) (c .in-Continue-point .point) _ same (c .store .result) (c .store .ensures .stored);
+      others = refl;
+    }

@@ -17,7 +17,9 @@ returns c =
     let same : pair-bits (c .in-Continue-pair .pair) ≡ double-bits (c .args .u) (c .args .v) = cc in
     let with-list : List (List ℕ) → Contents = λ xs. record { sources = record { positions = contained b .sources .positions; colours = contained b .sources .colours; textures = xs; normals = contained b .sources .normals }; waiting = contained b .waiting } in
     let with-room : ℕ → BookRooms = λ n. record { positions = rooms b .positions; colours = rooms b .colours; textures = n; normals = rooms b .normals; corners = rooms b .corners; faces = rooms b .faces } in
-    record { rooms = ap with-room (c .store .ensures .room)
-      ; does = stored-does pair-bits (b .attributes .textures) (c .store .last .row) (c .in-Continue-pair .pair) _ same with-list _ number (c .store .result) (c .store .ensures .refused) (c .store .ensures .stored)
-      ; cells = stored-cells pair-bits (b .attributes .textures) (c .store .last .row) (c .in-Continue-pair .pair) _ same (c .store .result) (c .store .ensures .stored)
-      ; others = refl }
+    record {
+      rooms = ap with-room (c .store .ensures .room);
+      does = stored-does pair-bits (b .attributes .textures) (c .store .last .row) (c .in-Continue-pair .pair) _ same with-list _ number (c .store .result) (c .store .ensures .refused) (c .store .ensures .stored);
+      cells = stored-cells pair-bits (b .attributes .textures) (c .store .last .row) (c .in-Continue-pair .pair) _ same (c .store .result) (c .store .ensures .stored);
+      others = refl;
+    }
