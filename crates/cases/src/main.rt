@@ -170,10 +170,12 @@ fn print_mesh(rt: &LibcRuntime, mesh: &Mesh) -> Result<(), AnyError> {
     let lists = mesh.lists();
     let positions = lists.positions.len();
     let textures = lists.texcoords.len();
-    println!(rt, "  positions {positions} textures {textures}")?;
+    let colours = lists.vertex_color.len();
+    println!(rt, "  positions {positions} textures {textures} colours {colours}")?;
     print_numbers(rt, "indices", &lists.indices)?;
     print_numbers(rt, "arities", &lists.face_arities)?;
-    print_numbers(rt, "texture indices", &lists.texcoord_indices)
+    print_numbers(rt, "texture indices", &lists.texcoord_indices)?;
+    print_numbers(rt, "colour indices", &lists.vertex_color_indices)
 }
 
 // One case: these texts into a book, and an export of it.
@@ -320,6 +322,7 @@ fn numbering_cases(rt: &LibcRuntime) -> Result<(), AnyError> {
     held_case(rt, "one colour", one_colour, 16, &[b"1 2 3"], PLAIN)
 }
 
+// Points that agree bit for bit are merged; 0 and -0 do not agree.
 fn merging_case(rt: &LibcRuntime) -> Result<(), AnyError> {
     let mut book = blank_book(rt.alloc())?;
     let _ = book.position(0.0, 0.0, 0.0);
@@ -328,11 +331,24 @@ fn merging_case(rt: &LibcRuntime) -> Result<(), AnyError> {
     export_case(rt, "0 and -0", &mut book, 16, &[b"1 2 3"], MERGED)
 }
 
+// Positions that merge while the colours beside them do not.
+fn colours_case(rt: &LibcRuntime) -> Result<(), AnyError> {
+    let mut book = blank_book(rt.alloc())?;
+    let _ = book.position(5.0, 0.0, 0.0);
+    let _ = book.position(6.0, 0.0, 0.0);
+    let _ = book.position(5.0, 0.0, 0.0);
+    let _ = book.colour(1.0, 0.0, 0.0);
+    let _ = book.colour(0.0, 1.0, 0.0);
+    let _ = book.colour(0.0, 0.0, 1.0);
+    export_case(rt, "colours apart", &mut book, 16, &[b"1 2 3"], MERGED)
+}
+
 fn run(rt: &LibcRuntime) -> Result<(), AnyError> {
     reading_cases(rt)?;
     unfolding_cases(rt)?;
     numbering_cases(rt)?;
-    merging_case(rt)
+    merging_case(rt)?;
+    colours_case(rt)
 }
 
 fn main(rt: LibcRuntime) -> Result<(), AnyError> {
