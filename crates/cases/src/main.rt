@@ -171,7 +171,10 @@ fn print_mesh(rt: &LibcRuntime, mesh: &Mesh) -> Result<(), AnyError> {
     let positions = lists.positions.len();
     let textures = lists.texcoords.len();
     let colours = lists.vertex_color.len();
-    println!(rt, "  positions {positions} textures {textures} colours {colours}")?;
+    println!(
+        rt,
+        "  positions {positions} textures {textures} colours {colours}"
+    )?;
     print_numbers(rt, "indices", &lists.indices)?;
     print_numbers(rt, "arities", &lists.face_arities)?;
     print_numbers(rt, "texture indices", &lists.texcoord_indices)?;
