@@ -4,17 +4,17 @@ use Rattle.book.proofs.CornerFacts.{same-room, kept_fits, kept-cells, answer_is,
 use Rattle.book.proofs.face.append_corners.Goals as goal
 
 pub invariant-of-row : goal.invariant-of-row
-invariant-of-row c = (kept_fits c.args.row.now c.deref-mut.result.now c.parse-face.new.cells c.deref-mut.ensures.value c.parse-face.auto.cells, tt)
+invariant-of-row c = (kept_fits c.args.row.now c.deref_mut.result.now c.parse_face.new.cells c.deref_mut.ensures.value c.parse_face.auto.cells, tt)
 
-pub returns-in-default : goal.returns-in-default
-returns-in-default c =
+pub returns-in_default : goal.returns-in_default
+returns-in_default c =
     let o = face c.args.counts c.args.text.now in
     let row = c.args.row.now in
-    let old = c.deref-mut.result.now in
-    let new = c.parse-face.new.cells in
-    let e = c.deref-mut.ensures.value in
-    let n = c.parse-face.auto.cells in
-    let h = c.in-default.ensures in
+    let old = c.deref_mut.result.now in
+    let new = c.parse_face.new.cells in
+    let e = c.deref_mut.ensures.value in
+    let n = c.parse_face.auto.cells in
+    let h = c.in_default.ensures in
     record {
       answer = answer_is row old new e n o None h.answer;
       granted = λ xs is l. absurd (never row old new e n o h.granted xs is l);
@@ -24,7 +24,7 @@ returns-in-default c =
 
 pub invariant-of-row-2 : goal.invariant-of-row-2
 invariant-of-row-2 c = (
-  more_fits c.args.row.now c.deref-mut.result.now c.parse-face.new.cells c.deref-mut.ensures.value c.parse-face.auto.cells
+  more_fits c.args.row.now c.deref_mut.result.now c.parse_face.new.cells c.deref_mut.ensures.value c.parse_face.auto.cells
       (face c.args.counts c.args.text.now) c.in-Some.count c.in-Some.ensures.answer,
   tt,
 )
@@ -33,10 +33,10 @@ pub returns : goal.returns
 returns c =
     let o = face c.args.counts c.args.text.now in
     let row = c.args.row.now in
-    let old = c.deref-mut.result.now in
-    let new = c.parse-face.new.cells in
-    let e = c.deref-mut.ensures.value in
-    let n = c.parse-face.auto.cells in
+    let old = c.deref_mut.result.now in
+    let new = c.parse_face.new.cells in
+    let e = c.deref_mut.ensures.value in
+    let n = c.parse_face.auto.cells in
     let h = c.in-Some.ensures in
     record {
       answer = answer_is row old new e n o (Some c.in-Some.count) h.answer;

@@ -12,20 +12,20 @@ pub returns-then-waiting-room : goal.returns-then-waiting-room
 returns-then-waiting-room c =
     let w = c.args.waiting.now in
     let o = face c.args.counts c.args.text.now in
-    record { refused = sym (no_face w o c.args.text.now (omega arith) ∙ c.refused.ensures c.args.counts); faces = refl; cells = (refl, refl, refl); corner-room = refl; face-room = refl }
+    record { refused = sym (no_face w o c.args.text.now (omega arith) ∙ c.refused.ensures c.args.counts); faces = refl; cells = (refl, refl, refl); corner_room = refl; face_room = refl }
 
-pub returns-in-default : goal.returns-in-default
-returns-in-default c =
+pub returns-in_default : goal.returns-in_default
+returns-in_default c =
     let w = c.args.waiting.now in
     let o = face c.args.counts c.args.text.now in
-    let h = c.in-default.ensures in
+    let h = c.in_default.ensures in
     let k = h.kept refl in
     record {
-      refused = sym (no_corners w o c.args.text.now h.answer ∙ c.refused-in-default.ensures c.args.counts);
-      faces = faces-kept w c.append-corners.new.row k.0 k.1;
+      refused = sym (no_corners w o c.args.text.now h.answer ∙ c.refused-in_default.ensures c.args.counts);
+      faces = faces-kept w c.append_corners.new.row k.0 k.1;
       cells = (k.0, k.1, refl);
-      corner-room = c.append-corners.ensures.room;
-      face-room = refl;
+      corner_room = c.append_corners.ensures.room;
+      face_room = refl;
     }
 
 pub invariant-of-waiting-2 : goal.invariant-of-waiting-2
@@ -35,7 +35,7 @@ invariant-of-waiting-2 c =
     let f = fitted (face c.args.counts c.args.text.now) w.corners.count (room w.corners) c.in-Some.count h.answer in
     let l : w.faces.count < room w.faces = omega arith in
     let pushed = c.push.ensures.granted (c.push.ensures.tells ∙ lt-ltb _ _ l) in
-    (tiles-added w c.append-corners.new.row c.push.new.self f.xs c.in-Some.count f.count (h.granted f.xs f.is f.fits) pushed, tt)
+    (tiles-added w c.append_corners.new.row c.push.new.self f.xs c.in-Some.count f.count (h.granted f.xs f.is f.fits) pushed, tt)
 
 pub returns : goal.returns
 returns c =
@@ -48,12 +48,12 @@ returns c =
     let xs-is : f.xs ≡ unwrap_or (face c.args.counts c.args.text.now) [] = ap (λ o. unwrap_or o []) (sym f.is) in
     record {
       refused = sym (no_obstacle w c.args.counts c.args.text.now f.xs f.is l f.fits);
-      faces = faces-added w c.append-corners.new.row c.push.new.self f.xs c.in-Some.count f.count more pushed ∙ ap (λ xs. faces_of w ++ xs ∷ []) xs-is;
+      faces = faces-added w c.append_corners.new.row c.push.new.self f.xs c.in-Some.count f.count more pushed ∙ ap (λ xs. faces_of w ++ xs ∷ []) xs-is;
       cells = (
         more.cells ∙ ap (λ xs. written xs w.corners.count (held w.corners)) xs-is,
-        face_cell w c.append-corners.new.row c.push.new.self f.xs c.in-Some.count f.count more pushed
+        face_cell w c.append_corners.new.row c.push.new.self f.xs c.in-Some.count f.count more pushed
             ∙ ap (λ xs. set (held w.faces) w.faces.count (record { start = w.corners.count; count = length xs })) xs-is,
       );
-      corner-room = c.append-corners.ensures.room;
-      face-room = c.push.ensures.room;
+      corner_room = c.append_corners.ensures.room;
+      face_room = c.push.ensures.room;
     }

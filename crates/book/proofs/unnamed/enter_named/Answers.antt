@@ -6,10 +6,10 @@ use Rattle.tables.specs.Tables.{Entering}
 use Rattle.book.specs.Unnamed.{named_among}
 use Rattle.book.proofs.UnnamedFacts.{entered-none, entered-some, named_skip, named_more, named-over}
 use Rattle.book.proofs.unnamed.enter_named.Goals as goal
-use Rattle.book.proofs.unnamed.enter_named.Goals.{then-corner-positions+else-is-none, else-corner-positions}
+use Rattle.book.proofs.unnamed.enter_named.Goals.{then-corner-positions+else-is_none, else-corner-positions}
 
-pub returns-then-is-none : goal.returns-then-is-none
-returns-then-is-none g c =
+pub returns-then-is_none : goal.returns-then-is_none
+returns-then-is_none g c =
     let d : VertexIndices = record { v = 0; vt = 0; vn = 0 } in
     let n = c.args.positions in
     let cs = c.args.corners.now in
@@ -20,7 +20,7 @@ returns-then-is-none g c =
     let h = c.enter.ensures in
     let s = c.loop-corner.invariant.0 in
     let Q : ℕ → Type 0 = λ v. Entering (g.T.CornerTable.capacity c.loop-corner.named) (v ∷ []) (g.T.CornerTable.keys c.loop-corner.named) (g.T.CornerTable.keys c.enter.new.self) c.enter.result in
-    let refused = entered-none ((get_or cs i d).v ∷ []) ks c.is-none.result cap ls c.enter.result c.is-none.ensures c.if-is-none.true (subst Q c.name-of.ensures (h.entering s)) in
+    let refused = entered-none ((get_or cs i d).v ∷ []) ks c.is_none.result cap ls c.enter.result c.is_none.ensures c.if-is_none.true (subst Q c.name_of.ensures (h.entering s)) in
     let over = named-over n cs i d c.loop-corner-test.true c.if-corner-positions.true cap ks ls c.loop-corner.invariant.2 refused in
     let same = c.loop-corner.invariant.1 ∙ c.empty.ensures.capacity in
     record {
@@ -45,11 +45,11 @@ loop-corner-preserved g c =
     × (g.T.CornerTable.keys t ≡ named_among c.args.positions (take (c.loop-corner.corner-index + 1) c.args.corners.now))
     × (length (named_among c.args.positions (take (c.loop-corner.corner-index + 1) c.args.corners.now)) ≤ g.T.CornerTable.capacity c.empty.new.self) in
     elim c.if-corner-positions.branch [
-      | then-corner-positions+else-is-none w ↦
+      | then-corner-positions+else-is_none w ↦
           let h = w.enter.ensures in
           let ls = g.T.CornerTable.keys w.enter.new.self in
           let E : ℕ → Type 0 = λ v. Entering (g.T.CornerTable.capacity c.loop-corner.named) (v ∷ []) (g.T.CornerTable.keys c.loop-corner.named) (g.T.CornerTable.keys w.enter.new.self) w.enter.result in
-          let placed = entered-some ((get_or cs i d).v ∷ []) ks w.is-none.result cap ls w.enter.result w.is-none.ensures w.if-is-none.false (subst E w.name-of.ensures (h.entering s)) in
+          let placed = entered-some ((get_or cs i d).v ∷ []) ks w.is_none.result cap ls w.enter.result w.is_none.ensures w.if-is_none.false (subst E w.name_of.ensures (h.entering s)) in
           let more = named_more n cs i d c.loop-corner-test.true w.if-corner-positions.true cap ks ls c.loop-corner.invariant.2 placed.0 placed.1 in
           let same = h.capacity ∙ c.loop-corner.invariant.1 in
           let count = ap length more in

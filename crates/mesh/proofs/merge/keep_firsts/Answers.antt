@@ -8,10 +8,10 @@ use Rattle.mesh.proofs.merge.keep_firsts.Goals as goal
 pub loop-at-init : goal.loop-at-init
 loop-at-init g c = (c.requires.sound, refl, walked_none g.E.Key.meaning _ c.args.cells.now c.args.remap.now _ c.requires.none c.requires.start)
 
-pub returns-in-default : goal.returns-in-default
-returns-in-default g c =
+pub returns-in_default : goal.returns-in_default
+returns-in_default g c =
     let inv = c.loop-at.invariant in
-    let full = met_full _ _ _ _ (c.in-default.ensures.entering inv.0) in
+    let full = met_full _ _ _ _ (c.in_default.ensures.entering inv.0) in
     record {
       kept = tt;
       refused = walked_full g.E.Key.meaning _ c.args.cells.now c.loop-at.at c.loop-at.cells c.loop-at.firsts c.args.remap.now c.loop-at.remap _ (omega arith) inv.2
@@ -31,8 +31,8 @@ returns-then-not-push g c =
     let l = c.loop-at-test.true in
     absurd (omega arith)
 
-pub keep-firsts-requires : goal.keep-firsts-requires
-keep-firsts-requires g c =
+pub keep_firsts-requires : goal.keep_firsts-requires
+keep_firsts-requires g c =
     let h = c.loop-at.invariant.2.few in
     let k = c.loop-at.invariant.2.long in
     let p = c.requires.inside in
@@ -54,7 +54,7 @@ loop-at-preserved g c =
       c.enter.ensures.sound inv.0,
       same,
       walked_next g.E.Key.meaning cap c.args.cells.now c.loop-at.at c.loop-at.cells c.loop-at.firsts c.args.remap.now c.loop-at.remap _ (omega arith) inv.2
-          x c.index-cells-at.is c.in-Some.place ks c.push.new.self placed fit pushed free c.keep-firsts.new.cells c.keep-firsts.result c.keep-firsts.ensures.cells c.keep-firsts.ensures.firsts,
+          x c.index-cells-at.is c.in-Some.place ks c.push.new.self placed fit pushed free c.keep_firsts.new.cells c.keep_firsts.result c.keep_firsts.ensures.cells c.keep_firsts.ensures.firsts,
     )
 
 pub returns : goal.returns

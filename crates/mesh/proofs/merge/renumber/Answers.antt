@@ -4,18 +4,18 @@ use Rattle.mesh.proofs.MergeRows.{lent_fits, lent_steady, mapped_items, mapped_r
 use Rattle.mesh.proofs.merge.renumber.Goals as goal
 
 pub invariant-of-indices : goal.invariant-of-indices
-invariant-of-indices c = (lent_fits c.args.indices.now c.deref-mut.result.now c.renumber-cells.new.numbers c.deref-mut.ensures.value c.renumber-cells.auto.numbers, tt)
+invariant-of-indices c = (lent_fits c.args.indices.now c.deref_mut.result.now c.renumber_cells.new.numbers c.deref_mut.ensures.value c.renumber_cells.auto.numbers, tt)
 
 pub returns : goal.returns
 unfolding looked_up
 returns c =
     let r = c.args.indices.now in
-    let ys = c.deref-mut.result.now in
-    let ws = c.renumber-cells.new.numbers in
-    let e = c.deref-mut.ensures.value in
-    let n = c.renumber-cells.auto.numbers in
+    let ys = c.deref_mut.result.now in
+    let ws = c.renumber_cells.new.numbers in
+    let e = c.deref_mut.ensures.value in
+    let n = c.renumber_cells.auto.numbers in
     let f = through (items c.args.remap.now) in
     record {
-      items = mapped_items r ys ws e n f c.renumber-cells.ensures;
-      steady = lent_steady r ys ws e n 0 (mapped_rest r ys ws e n f c.renumber-cells.ensures) _;
+      items = mapped_items r ys ws e n f c.renumber_cells.ensures;
+      steady = lent_steady r ys ws e n 0 (mapped_rest r ys ws e n f c.renumber_cells.ensures) _;
     }

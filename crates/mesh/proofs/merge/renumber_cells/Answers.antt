@@ -11,5 +11,5 @@ loop-at-preserved c =
     let ms = items c.args.remap.now in
     let ys = c.loop-at.numbers in
     let i = c.loop-at.at in
-    ap (set ys i) (c.unwrap-or.ensures ∙ read_through c.args.remap.now _ _ c.get.ensures)
+    ap (set ys i) (c.unwrap_or.ensures ∙ read_through c.args.remap.now _ _ c.get.ensures)
     ∙ map_over_more (through ms) c.args.numbers.now ys i (get_or ys i 0) (omega arith) c.loop-at.invariant (get_or_default ys i 0 (get_or ys i 0) (omega arith))

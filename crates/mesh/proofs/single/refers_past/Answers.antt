@@ -7,4 +7,4 @@ returns g c bits =
     let r = c.args.row.now in
     let n = c.len-count.ensures in
     let l : 0 < r.count = omega arith in
-    ap (λ (k : ℕ). leb k c.args.at) n ∙ sym (outside_here bits r c.args.at l c.if-at-eq-MISSING-INDEX.false)
+    ap (λ (k : ℕ). leb k c.args.at) n ∙ sym (outside_here bits r c.args.at l c.if-at-eq-MISSING_INDEX.false)

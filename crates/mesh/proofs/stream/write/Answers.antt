@@ -7,10 +7,10 @@ pub returns-in-Again : goal.returns-in-Again
 returns-in-Again g c =
     let p = c.push.ensures in
     record {
-      element-room = refl;
-      number-room = p.room;
-      element-spare = λ zero? h. h;
-      number-spare = λ zero?. spare_push zero? _ _ _ _ p.granted p.refused;
+      element_room = refl;
+      number_room = p.room;
+      element_spare = λ zero? h. h;
+      number_spare = λ zero?. spare_push zero? _ _ _ _ p.granted p.refused;
       written = λ bits xs rs m is ns h.
           let k = subst (Names bits xs rs m ByNumber) c.in-Again.is h in
           again_written bits xs rs m c.args.elements.now c.args.elements.now c.args.numbers.now c.push.new.self is ns
@@ -22,10 +22,10 @@ returns-then-place g c =
     let e = c.place.ensures in
     let p = c.push-then-place.ensures in
     record {
-      element-room = placed_room _ _ _ _ _ e;
-      number-room = p.room;
-      element-spare = placed_spare _ _ _ _ _ e;
-      number-spare = λ zero?. spare_push zero? _ _ _ _ p.granted p.refused;
+      element_room = placed_room _ _ _ _ _ e;
+      number_room = p.room;
+      element_spare = placed_spare _ _ _ _ _ e;
+      number_spare = λ zero?. spare_push zero? _ _ _ _ p.granted p.refused;
       written = λ bits xs rs m is ns h.
           let k = subst (Names bits xs rs m ByNumber) c.in-Element.is h in
           element-written bits xs rs m c.args.elements.now c.place.new.elements c.args.numbers.now c.push-then-place.new.self is ns
@@ -36,10 +36,10 @@ pub returns-else-place : goal.returns-else-place
 returns-else-place g c =
     let e = c.place.ensures in
     record {
-      element-room = placed_room _ _ _ _ _ e;
-      number-room = refl;
-      element-spare = placed_spare _ _ _ _ _ e;
-      number-spare = λ zero? h. h;
+      element_room = placed_room _ _ _ _ _ e;
+      number_room = refl;
+      element_spare = placed_spare _ _ _ _ _ e;
+      number_spare = λ zero? h. h;
       written = λ bits xs rs m is ns h.
           let k = subst (Names bits xs rs m ByNumber) c.in-Element.is h in
           element-refused bits xs rs m c.args.elements.now c.place.new.elements c.args.numbers.now c.args.numbers.now is ns

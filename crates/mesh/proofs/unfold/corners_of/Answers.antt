@@ -3,8 +3,8 @@ use Rattle.std.proofs.lemmas.List.{length-take}
 use Rattle.mesh.proofs.UnfoldWaiting.{face-inside, face_fits, face-corners, face_short}
 use Rattle.mesh.proofs.unfold.corners_of.Goals as goal
 
-pub overflow-add-stop : goal.overflow-add-stop
-overflow-add-stop c =
+pub overflow_add-stop : goal.overflow_add-stop
+overflow_add-stop c =
     let f = c.index-face.result.now in
     let w = c.args.waiting.now in
     let x = face-inside w c.args.at c.requires f c.index-face.ensures in
@@ -12,8 +12,8 @@ overflow-add-stop c =
     let small : f.start + f.count ≤ 16777216 = omega arith in
     search rules
 
-pub offset-bounds-corners-start : goal.offset-bounds-corners-start
-offset-bounds-corners-start c =
+pub offset_bounds-corners-start : goal.offset_bounds-corners-start
+offset_bounds-corners-start c =
     let f = c.index-face.result.now in
     let w = c.args.waiting.now in
     let x = face-inside w c.args.at c.requires f c.index-face.ensures in

@@ -18,7 +18,7 @@ returns-in-Err g c =
 pub loop-vert-preserved : goal.loop-vert-preserved
 loop-vert-preserved g c =
     written_as _ (sym (map_more corner c.args.corners.now c.loop-vert.vert-index _ c.loop-vert-test.true))
-    (written_then c.loop-vert.invariant (writing_written c.in-default.field-0 c.in-default.ensures))
+    (written_then c.loop-vert.invariant (writing_written c.in_default.field-0 c.in_default.ensures))
 
 pub returns : goal.returns
 returns g c =

@@ -11,4 +11,4 @@ returns-in-Line g c =
     let o = c.args.options in
     let f = c.args.corners.now in
     let u : Unfolds o f Line = subst (Unfolds o f) c.in-Line.is c.requires.way in
-    writing_as c.write-corners-in-Line.result _ (sym (events-kept o f u.0 ∙ (u.1 ∙ ap (map corner) (line_is _ f u.2)))) c.write-corners-in-Line.ensures
+    writing_as c.write_corners-in-Line.result _ (sym (events-kept o f u.0 ∙ (u.1 ∙ ap (map corner) (line_is _ f u.2)))) c.write_corners-in-Line.ensures

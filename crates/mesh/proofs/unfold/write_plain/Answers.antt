@@ -12,11 +12,11 @@ returns-in-Err g c = writing_stop c.in-Err.error (arity (length c.args.corners.n
 pub returns-then-not-push : goal.returns-then-not-push
 returns-then-not-push g c =
     let full = ltb-false _ _ (sym c.push.ensures.tells ∙ c.if-not-push.true) in
-    writing_then (Err MeshFull) (writing_written c.in-default.field-0 c.in-default.ensures)
+    writing_then (Err MeshFull) (writing_written c.in_default.field-0 c.in_default.ensures)
     (arity-refused _ _ _ _ _ _ c.push.new.self full (c.push.ensures.refused c.if-not-push.true))
 
 pub returns : goal.returns
 returns g c =
     let free = ltb-true _ _ (sym c.push.ensures.tells ∙ c.if-not-push.false) in
-    written_writing tt (written_then (writing_written c.in-default.field-0 c.in-default.ensures)
+    written_writing tt (written_then (writing_written c.in_default.field-0 c.in_default.ensures)
     (arity-written _ _ _ _ _ _ c.push.new.self free (c.push.ensures.granted c.if-not-push.false)))

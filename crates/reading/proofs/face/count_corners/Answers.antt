@@ -28,5 +28,5 @@ loop-token-preserved c = (
 pub returns : goal.returns
 returns c =
     let h : Counted c.args.text.now (Some c.loop-token.count) =
-    λ n. count-all n c.loop-token.count (tokens_left c.loop-token.tokens) c.in-default.ensures.token ∙ c.loop-token.invariant.0 n in
+    λ n. count-all n c.loop-token.count (tokens_left c.loop-token.tokens) c.in_default.ensures.token ∙ c.loop-token.invariant.0 n in
     record { counted = h; ascii = none-counted c.args.text.now (Some c.loop-token.count) h; laws = laws; readings = readings }

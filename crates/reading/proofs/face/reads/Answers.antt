@@ -9,5 +9,5 @@ pub returns : goal.returns
 returns c n =
     let z : Counts = record { positions = 0; textures = 0; normals = 0 } in
     let t = token_stretch c.args.token in
-    let e : c.is-some.result ≡ is_some (corner z t) = search rules in
+    let e : c.is_some.result ≡ is_some (corner z t) = search rules in
     e ∙ reads-alike z n t

@@ -5,10 +5,10 @@ use Rattle.reading.proofs.FaceFacts.{Writing, writing_none, writing_room, writin
 use Rattle.reading.proofs.face.write_corners.Goals as goal
 
 -- the next cell is there
-next_fits : (c : goal.In-Some-token-corner) → c.loop-next.next < length c.args.cells.now
+next_fits : (c : goal.In-Some-token_corner) → c.loop-next.next < length c.args.cells.now
 next_fits c =
     writing_room c.args.counts c.args.text.now c.args.start c.args.cells.now (tokens_left c.loop-next.tokens) c.loop-next.cells c.loop-next.next c.loop-next.invariant
-    (token_stretch c.in-Some.token) (tokens_left c.next.new.self) c.in-Some-token-corner.corner c.in-Some.ensures.token (sym c.in-Some-token-corner.ensures) c.requires
+    (token_stretch c.in-Some.token) (tokens_left c.next.new.self) c.in-Some-token_corner.corner c.in-Some.ensures.token (sym c.in-Some-token_corner.ensures) c.requires
 
 pub loop-next-init : goal.loop-next-init
 loop-next-init c =
@@ -16,21 +16,21 @@ loop-next-init c =
     (sym c.new-tokens.ensures.left)
     (writing_none c.args.counts c.args.text.now c.args.start c.args.cells.now)
 
-pub returns-in-default-token-corner : goal.returns-in-default-token-corner
-returns-in-default-token-corner c xs e =
+pub returns-in_default-token_corner : goal.returns-in_default-token_corner
+returns-in_default-token_corner c xs e =
     absurd (writing_stuck c.args.counts c.args.text.now c.args.start c.args.cells.now (tokens_left c.loop-next.tokens) c.loop-next.cells c.loop-next.next c.loop-next.invariant
-    (token_stretch c.in-Some.token) (tokens_left c.next.new.self) c.in-Some.ensures.token (sym c.in-default-token-corner.ensures) c.requires)
+    (token_stretch c.in-Some.token) (tokens_left c.next.new.self) c.in-Some.ensures.token (sym c.in_default-token_corner.ensures) c.requires)
 
-pub offset-bounds-cells-next : goal.offset-bounds-cells-next
-offset-bounds-cells-next c = let h = next_fits c in search rules
+pub offset_bounds-cells-next : goal.offset_bounds-cells-next
+offset_bounds-cells-next c = let h = next_fits c in search rules
 
 pub bounds-cells-next : goal.bounds-cells-next
 bounds-cells-next c = let h = next_fits c in search rules
 
-pub overflow-add-next : goal.overflow-add-next
-overflow-add-next c = let h = next_fits c in search rules
+pub overflow_add-next : goal.overflow_add-next
+overflow_add-next c = let h = next_fits c in search rules
 
 pub loop-next-preserved : goal.loop-next-preserved
 loop-next-preserved c =
     writing_more c.args.counts c.args.text.now c.args.start c.args.cells.now (tokens_left c.loop-next.tokens) c.loop-next.cells c.loop-next.next c.loop-next.invariant
-    (token_stretch c.in-Some.token) (tokens_left c.next.new.self) c.in-Some-token-corner.corner c.in-Some.ensures.token (sym c.in-Some-token-corner.ensures) c.requires
+    (token_stretch c.in-Some.token) (tokens_left c.next.new.self) c.in-Some-token_corner.corner c.in-Some.ensures.token (sym c.in-Some-token_corner.ensures) c.requires

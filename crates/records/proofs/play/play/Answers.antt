@@ -30,8 +30,8 @@ loop-count-preserved g c =
           i.0.0 (same ∙ e.2 _ _) c.kind-kind.ensures e.1 e.3 (c.line.ensures (g.N.Numbering.stock c.obey-answer.new.tables)) c.obey-answer.ensures.untouched c.obey-answer.ensures.does (i.3 p r),
     )
 
-pub returns-in-default : goal.returns-in-default
-returns-in-default g c =
+pub returns-in_default : goal.returns-in_default
+returns-in_default g c =
     let i = c.loop-count.invariant in
     let k = c.loop-count.auto.lines in
     let l : c.loop-count.count < length c.loop-count.lines = omega arith in
@@ -44,7 +44,7 @@ returns-in-default g c =
       count = omega arith;
       kept = kept_more c.args.lines.now c.loop-count.lines c.loop-count.count _ i.2;
       played = λ p r. played_bad (rooms c.args.book.now) _ _ p _ c.args.tape.now c.loop-count.rest.now _ _ c.loop-count.lines c.loop-count.count _ c.kind-kind.result
-          l c.kind-kind.ensures (omega arith, c.in-default.ensures) (i.3 p r);
+          l c.kind-kind.ensures (omega arith, c.in_default.ensures) (i.3 p r);
     }
 
 pub returns-else-rest-gt0 : goal.returns-else-rest-gt0

@@ -14,9 +14,9 @@ loop-slot-preserved g c =
 pub returns : goal.returns
 returns g c =
     let ts = c.loop-slot.slot-items in
-    let back = came_back ts c.args.slots.now.items c.args.slots.now.len (c.loop-slot.auto.slot-items ∙ c.deref-mut-slot-items.ensures.len) in
+    let back = came_back ts c.args.slots.now.items c.args.slots.now.len (c.loop-slot.auto.slot-items ∙ c.deref_mut-slot-items.ensures.len) in
     record {
-      len = ap length back ∙ c.loop-slot.auto.slot-items ∙ ap length c.deref-mut-slot-items.ensures.value;
+      len = ap length back ∙ c.loop-slot.auto.slot-items ∙ ap length c.deref_mut-slot-items.ensures.value;
       none = λ ks. let P : List ℕ → Type 0 = λ ss. Hashed g.K.Key.meaning g.K.Key.digest 0 ks ss in
           subst P (sym back) (hashed_none g.K.Key.meaning g.K.Key.digest ks ts (λ q. elim (cases_lt q c.loop-slot.slot-index) [
             | inl h ↦ c.loop-slot.invariant q h

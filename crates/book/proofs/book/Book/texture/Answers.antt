@@ -10,14 +10,14 @@ use Rattle.book.proofs.book.Book.texture.Goals as goal
 pub returns : goal.returns
 returns c =
     let b = c.args.self.now in
-    let made = c.in-ok-pair.ensures.made in
-    let number = passed (nan2 c.args.u c.args.v) _ c.in-ok-pair.ensures.refused in
-    let same : pair_bits c.in-ok-pair.pair ≡ double_bits c.args.u c.args.v = cc in
+    let made = c.in_ok-pair.ensures.made in
+    let number = passed (nan2 c.args.u c.args.v) _ c.in_ok-pair.ensures.refused in
+    let same : pair_bits c.in_ok-pair.pair ≡ double_bits c.args.u c.args.v = cc in
     let with-list : List (List ℕ) → Contents = λ xs. record { sources = record { positions = (contained b).sources.positions; colours = (contained b).sources.colours; textures = xs; normals = (contained b).sources.normals }; waiting = (contained b).waiting } in
     let with-room : ℕ → BookRooms = λ n. record { positions = (rooms b).positions; colours = (rooms b).colours; textures = n; normals = (rooms b).normals; corners = (rooms b).corners; faces = (rooms b).faces } in
     record {
       rooms = ap with-room c.store.ensures.room;
-      does = stored_does pair_bits b.attributes.textures c.store.new.row c.in-ok-pair.pair _ same with-list _ number c.store.result c.store.ensures.refused c.store.ensures.stored;
-      cells = stored_cells pair_bits b.attributes.textures c.store.new.row c.in-ok-pair.pair _ same c.store.result c.store.ensures.stored;
+      does = stored_does pair_bits b.attributes.textures c.store.new.row c.in_ok-pair.pair _ same with-list _ number c.store.result c.store.ensures.refused c.store.ensures.stored;
+      cells = stored_cells pair_bits b.attributes.textures c.store.new.row c.in_ok-pair.pair _ same c.store.result c.store.ensures.stored;
       others = refl;
     }

@@ -9,12 +9,12 @@ use Rattle.book.proofs.book.Book.unnamed.Goals as goal
 
 pub returns : goal.returns
 returns g c =
-    let a = c.list-unnamed-answer.result in
-    let r = c.list-unnamed-answer.new.list in
+    let a = c.list_unnamed-answer.result in
+    let r = c.list_unnamed-answer.new.list in
     let s = c.settle.new.list in
-    let h = c.list-unnamed-answer.ensures in
+    let h = c.list_unnamed-answer.ensures in
     let k = c.settle.ensures in
-    let same : room c.list-unnamed-answer.new.list ≡ room c.args.list.now = h.room ∙ c.clear.ensures.room in
+    let same : room c.list_unnamed-answer.new.list ≡ room c.args.list.now = h.room ∙ c.clear.ensures.room in
     let checked : ℕ → Option LoadError = λ n. first (unnamed_checks (g.T.CornerTable.capacity c.args.table.now) n (contained c.args.self.now)) in
     let Listed : Option LoadError → Type 0 = λ o. Lists o (contained c.args.self.now) (items c.settle.new.list) in
     record {

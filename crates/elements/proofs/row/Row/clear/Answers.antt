@@ -6,7 +6,7 @@ use Rattle.elements.proofs.row.Row.clear.Goals as goal
 
 pub returns : goal.returns
 returns g c =
-    let is = blanked_refill c.empty.new.self c.deref-mut.result.now c.clear.new.cells c.args.blank c.deref-mut.ensures.value c.clear.ensures in
+    let is = blanked_refill c.empty.new.self c.deref_mut.result.now c.clear.new.cells c.args.blank c.deref_mut.ensures.value c.clear.ensures in
     let old = ap (λ v. blanked (vec_items v) c.args.blank) c.empty.ensures.cells in
     record {
       cells = is ∙ old;

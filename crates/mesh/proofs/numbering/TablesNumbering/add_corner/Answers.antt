@@ -7,10 +7,10 @@ use Rattle.mesh.proofs.numbering.TablesNumbering.add_corner.Goals as goal
 
 pub returns-then-options : goal.returns-then-options
 returns-then-options g c =
-    let e = c.add-vertex.ensures in
+    let e = c.add_vertex.ensures in
     let t = c.args.self.now in
     let l = c.args.lists.now in
-    let l' = c.add-vertex.new.lists in
+    let l' = c.add_vertex.new.lists in
     let n : Capacities = record { corners = g.Ct.CornerTable.capacity t.corners; positions = g.Pt.CornerTable.capacity t.positions; textures = g.Tt.CornerTable.capacity t.textures; normals = g.Nt.CornerTable.capacity t.normals; points = g.Qt.CornerTable.capacity t.points; pairs = g.Rt.CornerTable.capacity t.pairs } in
     let p = g.Pt.CornerTable.keys t.positions in
     let q = g.Tt.CornerTable.keys t.textures in
@@ -27,17 +27,17 @@ returns-then-options g c =
       };
       writes = λ s. adds_writes c.args.options (sources c.args.attributes.now) (rooms l) n c.args.vert (surface l) (surface l')
           (record { corners = g.Ct.CornerTable.keys t.corners; positions = p; textures = q; normals = u })
-          (record { corners = g.Ct.CornerTable.keys c.add-vertex.new.table; positions = p; textures = q; normals = u }) c.add-vertex.result
+          (record { corners = g.Ct.CornerTable.keys c.add_vertex.new.table; positions = p; textures = q; normals = u }) c.add_vertex.result
           (single_adds c.args.options (sources c.args.attributes.now) (rooms l) n c.args.vert (surface l) (surface l')
-          (g.Ct.CornerTable.keys t.corners) (g.Ct.CornerTable.keys c.add-vertex.new.table) p p q q u u c.add-vertex.result c.if-options.true (e.adds s.0.0 n refl));
+          (g.Ct.CornerTable.keys t.corners) (g.Ct.CornerTable.keys c.add_vertex.new.table) p p q q u u c.add_vertex.result c.if-options.true (e.adds s.0.0 n refl));
     }
 
 pub returns-else-options : goal.returns-else-options
 returns-else-options g c =
-    let e = c.add-vertex-multi-index.ensures in
+    let e = c.add_vertex_multi_index.ensures in
     let t = c.args.self.now in
     let l = c.args.lists.now in
-    let a = c.add-vertex-multi-index.new in
+    let a = c.add_vertex_multi_index.new in
     let n : Capacities = record { corners = g.Ct.CornerTable.capacity t.corners; positions = g.Pt.CornerTable.capacity t.positions; textures = g.Tt.CornerTable.capacity t.textures; normals = g.Nt.CornerTable.capacity t.normals; points = g.Qt.CornerTable.capacity t.points; pairs = g.Rt.CornerTable.capacity t.pairs } in
     let k = g.Ct.CornerTable.keys t.corners in
     let p = g.Pt.CornerTable.keys t.positions in
@@ -57,7 +57,7 @@ returns-else-options g c =
         sound = λ s. (let k = e.sound (s.0.1, s.0.2, s.1.0) in ((s.0.0, k.0, k.1), (k.2, s.1.1, s.1.2), e.within (s.0.2, s.1.0) s.2));
       };
       writes = λ s. adds_writes c.args.options (sources c.args.attributes.now) (rooms l) n c.args.vert (surface l) (surface a.lists)
-          (record { corners = k; positions = p; textures = q; normals = u }) (record { corners = k; positions = p'; textures = q'; normals = u' }) c.add-vertex-multi-index.result
+          (record { corners = k; positions = p; textures = q; normals = u }) (record { corners = k; positions = p'; textures = q'; normals = u' }) c.add_vertex_multi_index.result
           (multi_adds c.args.options (sources c.args.attributes.now) (rooms l) n c.args.vert (surface l) (surface a.lists)
-          k k p p' q q' u u' c.add-vertex-multi-index.result c.if-options.false (e.adds (s.0.1, s.0.2, s.1.0) s.2 n (refl, refl, refl) []));
+          k k p p' q q' u u' c.add_vertex_multi_index.result c.if-options.false (e.adds (s.0.1, s.0.2, s.1.0) s.2 n (refl, refl, refl) []));
     }

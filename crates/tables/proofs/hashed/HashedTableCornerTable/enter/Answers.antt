@@ -32,14 +32,14 @@ returns-in-Past g c =
       entering = λ s. absurd (past_never f d (f c.args.key) n ks ss c.args.self.now.enough c.in-Past.ensures s);
     }
 
-pub returns-then-is-full : goal.returns-then-is-full
-returns-then-is-full g c =
+pub returns-then-is_full : goal.returns-then-is_full
+returns-then-is_full g c =
     let f = g.K.Key.meaning in
     let d = g.K.Key.digest in
     let n = c.args.self.now.held.count in
     let ks = vec_items c.args.self.now.held.cells in
     let ss = vec_items c.args.self.now.slots in
-    let full = leb-true (min (length ks) 16777216) n (sym c.if-is-full.ensures) in
+    let full = leb-true (min (length ks) 16777216) n (sym c.if-is_full.ensures) in
     record {
       capacity = refl;
       sound = λ s. s;
@@ -51,8 +51,8 @@ returns-then-is-full g c =
       };
     }
 
-pub returns-else-is-full : goal.returns-else-is-full
-returns-else-is-full g c =
+pub returns-else-is_full : goal.returns-else-is_full
+returns-else-is_full g c =
     let f = g.K.Key.meaning in
     let d = g.K.Key.digest in
     let k = c.args.key in
@@ -62,7 +62,7 @@ returns-else-is-full g c =
     let us = vec_items c.push-place.new.self.cells in
     let ss = vec_items c.args.self.now.slots in
     let free = c.in-Free.ensures in
-    let room = leb-false (min (length ks) 16777216) n (sym c.if-is-full.ensures) in
+    let room = leb-false (min (length ks) 16777216) n (sym c.if-is_full.ensures) in
     let cells = c.push-place.ensures.cells in
     let count = c.push-place.ensures.count in
     let slot = ap (λ (x : ℕ). x + 1) c.push-place.ensures.place in

@@ -11,11 +11,11 @@ returns-in-Some g c = record {
   entering = λ s. placed_old _ (g.K.Key.meaning c.args.key) _ c.in-Some.place (c.in-Some.ensures.found s);
 }
 
-pub returns-then-is-full : goal.returns-then-is-full
-returns-then-is-full g c =
+pub returns-then-is_full : goal.returns-then-is_full
+returns-then-is_full g c =
     let n = c.args.self.now.held.count in
     let ks = vec_items c.args.self.now.held.cells in
-    let full = leb-true (min (length ks) 16777216) n (sym c.if-is-full.ensures) in
+    let full = leb-true (min (length ks) 16777216) n (sym c.if-is_full.ensures) in
     record {
       capacity = refl;
       sound = λ s. s;
@@ -27,15 +27,15 @@ returns-then-is-full g c =
       };
     }
 
-pub returns-else-is-full : goal.returns-else-is-full
-returns-else-is-full g c =
+pub returns-else-is_full : goal.returns-else-is_full
+returns-else-is_full g c =
     let f = g.K.Key.meaning in
     let k = c.args.key in
     let n = c.args.self.now.held.count in
     let o = c.push.new.self.count in
     let ks = vec_items c.args.self.now.held.cells in
     let us = vec_items c.push.new.self.cells in
-    let room = leb-false (min (length ks) 16777216) n (sym c.if-is-full.ensures) in
+    let room = leb-false (min (length ks) 16777216) n (sym c.if-is_full.ensures) in
     let cells = c.push.ensures.cells in
     let count = c.push.ensures.count in
     let push = searched_push f n o ks us k cells count room c.in-None.ensures.found in
