@@ -7,7 +7,7 @@ use elements::options::LoadOptions;
 use elements::point::{Pair, Point};
 use elements::row::Row;
 use mesh::mesh::Mesh;
-use mesh::tables::Tables;
+use mesh::six_tables::Tables;
 use reading::counts::Counts;
 use reading::vertex::Parse;
 use std::alloc::{AllocError, Global};

@@ -1,5 +1,5 @@
 -- Steps of the loops over cells.
-use Rattle.std.proofs.Common.{◌≡◌, ℕ, ◌+◌, ◌-◌, ◌<◌, ◌≤◌, List, [], ◌∷◌, ◌++◌, length, get_or, take, drop, set, replicate, sym, refl, ap, ◌∙◌, subst, arith}
+use Rattle.std.proofs.Common.{◌≡◌, ℕ, ◌+◌, ◌-◌, ◌<◌, List, [], ◌∷◌, ◌++◌, length, drop, set, replicate, sym, ap, ◌∙◌, arith}
 use Rattle.elements.specs.Cells.{room_of, blanked}
 use Rattle.std.proofs.lemmas.List.{append_assoc, length-append, length-drop, length-replicate, set-append_right, drop_more, replicate_more}
 

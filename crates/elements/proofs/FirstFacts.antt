@@ -1,7 +1,7 @@
 -- The laws of first appearances: a caller cites these and need not open the definitions of specs/First.
-use Rattle.std.proofs.Common.{◌≡◌, ℕ, zero, suc, ◌+◌, ◌<◌, ◌≤◌, Bool, true, false, cond, ◌&&◌, ◌||◌, eqb, ◌⊎◌, List, [], ◌∷◌, ◌++◌, map, length, get_or, take, drop, sym, refl, ap, ◌∙◌, subst, inl, inr, ⊎_elim, suc-le-suc, zero-le, arith}
+use Rattle.std.proofs.Common.{◌≡◌, ℕ, zero, suc, ◌<◌, ◌≤◌, Bool, true, false, cond, ◌||◌, eqb, List, [], ◌∷◌, ◌++◌, map, length, get_or, take, drop, sym, refl, ap, ◌∙◌, subst, ⊎_elim, suc-le-suc, zero-le, arith}
 use Rattle.std.proofs.lemmas.Bool.{eqb-true, eq-eqb, and_parts, and_from, or_from, or_parts, or_cases, or_left, or_right, cases_Bool, both_ways, cond-true, cond-false}
-use Rattle.std.proofs.lemmas.List.{append-nil, length_push, length-map, get_or-map, map_push, get_or_push, get_or_append_left, take-append-drop}
+use Rattle.std.proofs.lemmas.List.{append-nil, length-map, get_or-map, map_push, take-append-drop}
 use Rattle.elements.specs.First.{alike, has, without, distinct, place, entered, numbers, PlaceOf, Absent, Apart}
 
 -- ---- the same key

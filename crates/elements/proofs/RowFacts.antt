@@ -1,7 +1,7 @@
 -- Laws of rows.
-use Rattle.std.proofs.Common.{◌≡◌, ℕ, ◌+◌, ◌<◌, ◌≤◌, min, Bool, true, cond, ltb, List, [], ◌∷◌, ◌++◌, length, get_or, take, set, Some, None, Option, sym, refl, ap, ◌∙◌, subst, arith, length-set, MatchOption}
+use Rattle.std.proofs.Common.{◌≡◌, ℕ, ◌+◌, ◌<◌, ◌≤◌, min, Bool, true, ltb, List, length, get_or, take, set, Some, None, Option, sym, refl, ap, ◌∙◌, arith, length-set, MatchOption}
 use Rattle.std.specs.Vec.{with_items}
-use Rattle.std.proofs.lemmas.List.{take_more_set, length-take-le, get_or-take, get_or_default, with_items_is}
+use Rattle.std.proofs.lemmas.List.{take_more_set, length-take-le, get_or-take, with_items_is}
 use Rattle.std.proofs.lemmas.Bool.{lt-ltb}
 use Rattle.elements.specs.declared.row.Row.{Row}
 use Rattle.elements.specs.Cells.{room_of, added, blanked}

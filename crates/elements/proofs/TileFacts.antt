@@ -1,5 +1,5 @@
 -- Laws of faces that stand one after the other over a list of corners.
-use Rattle.std.proofs.Common.{◌≡◌, ℕ, zero, suc, ◌+◌, ◌-◌, ◌<◌, ◌≤◌, Bool, true, false, ◌&&◌, T, eqb, List, [], ◌∷◌, ◌++◌, map, length, get_or, take, drop, sym, refl, ap, ◌∙◌, subst, arith}
+use Rattle.std.proofs.Common.{◌≡◌, ℕ, zero, suc, ◌+◌, ◌<◌, ◌≤◌, Bool, true, false, ◌&&◌, T, eqb, List, [], ◌∷◌, ◌++◌, map, length, get_or, take, drop, sym, refl, ap, ◌∙◌, subst, arith}
 use Rattle.std.specs.List.{flat_map}
 use Rattle.std.proofs.lemmas.Bool.{eqb-true, eq-eqb}
 use Rattle.std.proofs.lemmas.List.{length-append, length-take-le, length-drop, length-map, take-append-le, drop-append-le, take_all, drop_at, map_push, get_or-take, get_or-drop}
@@ -7,7 +7,7 @@ use Rattle.elements.specs.declared.corner.Face.{Face}
 use Rattle.elements.specs.declared.corner.VertexIndices.{VertexIndices}
 use Rattle.elements.specs.declared.waiting.Waiting.{Waiting}
 use Rattle.elements.specs.Contents.{faces_of}
-use Rattle.elements.specs.Rows.{items, room}
+use Rattle.elements.specs.Rows.{items}
 use Rattle.elements.specs.Tiles.{part, tiles}
 use Rattle.elements.proofs.RowFacts.{length-items}
 

@@ -1,7 +1,7 @@
 -- A list kept in cells: the first so many of them.
 --   room_of n      how many elements n cells have room for
 --   Added          one element more was written, or nothing changed
-use Rattle.std.specs.Prelude.{◌≡◌, ℕ, ◌+◌, min, Bool, true, false, cond, List, ◌++◌, length, drop, replicate, slice_set}
+use Rattle.std.specs.Prelude.{ℕ, min, Bool, cond, List, ◌++◌, length, drop, replicate, slice_set}
 
 -- cells past the first 16,777,216 are never touched
 abbrev pub room_of : ℕ → ℕ

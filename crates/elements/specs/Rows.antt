@@ -3,9 +3,9 @@
 --   items r      the list that it holds
 --   room r       how many elements it has room for
 --   Pushed       an element was added after the others, in the next cell, and no other cell was touched
-use Rattle.std.specs.Prelude.{◌≡◌, ℕ, ◌+◌, ◌<◌, ◌≤◌, Bool, cond, List, [], ◌∷◌, ◌++◌, length, take, vec_items, nat_lt, slice_set}
+use Rattle.std.specs.Prelude.{◌≡◌, ℕ, ◌+◌, Bool, List, [], ◌∷◌, ◌++◌, length, take, vec_items, nat_lt, slice_set}
 use Rattle.elements.specs.declared.row.Row.{Row}
-use Rattle.elements.specs.Cells.{room_of, blanked}
+use Rattle.elements.specs.Cells.{room_of}
 
 module _ {X : Type 0} where
   abbrev pub held : Row X → List X

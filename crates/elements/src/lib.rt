@@ -1,3 +1,5 @@
+#![tactic(auto)]
+
 pub mod attributes;
 pub mod corner;
 pub mod error;

@@ -1,7 +1,7 @@
 -- A table's answer, told apart by whether the key was new.
-use Rattle.std.proofs.Common.{◌≡◌, ℕ, Bool, true, false, ◌⊎◌, List, length, Some, None, Option, sym, ◌∙◌, subst, inl, inr, ⊎_elim, MatchOption}
+use Rattle.std.proofs.Common.{◌≡◌, ℕ, List, length, Some, None, Option, sym, ◌∙◌, subst, inl, inr, ⊎_elim, MatchOption}
 use Rattle.std.proofs.lemmas.Bool.{cases_Bool}
-use Rattle.elements.specs.First.{has, place, PlaceOf, Absent}
+use Rattle.elements.specs.First.{has, PlaceOf, Absent}
 use Rattle.elements.proofs.FirstFacts.{absent_lacks, place_of, place_none, entered-old, entered-new}
 use Rattle.tables.specs.Tables.{Refused, Placed as Entered, Entering}
 use Rattle.mesh.specs.Entering.{Placed}

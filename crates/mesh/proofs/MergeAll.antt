@@ -1,7 +1,7 @@
 -- The merging of a whole mesh.
-use Rattle.std.proofs.Common.{◌≡◌, ℕ, ◌+◌, ◌<◌, ◌≤◌, max, Bool, true, false, cond, ◌&&◌, ◌||◌, T, ltb, List, [], ◌∷◌, ◌++◌, map, length, get_or, take, drop, Some, Option, sym, refl, ap, ◌∙◌, subst, ⊎_elim, arith}
+use Rattle.std.proofs.Common.{◌≡◌, ℕ, ◌+◌, ◌<◌, ◌≤◌, max, Bool, true, false, cond, ◌&&◌, ◌||◌, ltb, List, [], ◌∷◌, ◌++◌, map, length, get_or, take, Some, Option, sym, refl, ap, ◌∙◌, subst, ⊎_elim, arith}
 use Rattle.std.proofs.lemmas.List.{length-map, take_more}
-use Rattle.std.proofs.lemmas.Bool.{cases_Bool, cases_lt, both_ways, lt-ltb, le-ltb, ltb-false, or_left, or_from, or_parts, and_from, and_left, cond-true, cond-false}
+use Rattle.std.proofs.lemmas.Bool.{cases_Bool, cases_lt, lt-ltb, le-ltb, ltb-false, or_left, or_from, or_parts, and_left, cond-true, cond-false}
 use Rattle.elements.specs.declared.point.Point.{Point}
 use Rattle.elements.specs.declared.point.Pair.{Pair}
 use Rattle.elements.specs.declared.row.Row.{Row}
@@ -12,13 +12,13 @@ use Rattle.elements.specs.Checks.{first}
 use Rattle.elements.specs.Rows.{held, items, room, Pushed}
 use Rattle.elements.proofs.RowFacts.{length-items, item_at}
 use Rattle.mesh.specs.declared.lists.Lists.{Lists}
-use Rattle.mesh.specs.Surface.{Surface, Rooms, Capacities, over}
+use Rattle.mesh.specs.Surface.{Capacities, over}
 use Rattle.mesh.specs.Lists.{surface, rooms, Blank, Spare, zero_point, zero_pair, zero_number}
 use Rattle.mesh.specs.Numbering.{some}
 use Rattle.mesh.specs.Merging.{renumbered, merged, longest, merge_checks}
 use Rattle.mesh.specs.Merges.{Within, Steady, AllSteady, RowsMerged, Mergeable, TablesFor, bit_checks}
 use Rattle.mesh.proofs.MergeFacts.{renumbered-through}
-use Rattle.mesh.proofs.MergeRows.{steady-pushed, steady-same, steady_then}
+use Rattle.mesh.proofs.MergeRows.{steady-pushed, steady_then}
 
 -- ---- what merging lacks
 

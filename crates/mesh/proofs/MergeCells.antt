@@ -1,5 +1,5 @@
 -- Steps of the loops of merging over cells.
-use Rattle.std.proofs.Common.{◌≡◌, ℕ, ◌+◌, ◌-◌, ◌<◌, ◌≤◌, List, [], ◌∷◌, ◌++◌, length, get_or, take, drop, set, replicate, Some, None, Option, unwrap_or, sym, refl, ap, ◌∙◌, subst, arith, MatchOption}
+use Rattle.std.proofs.Common.{◌≡◌, ℕ, ◌+◌, ◌-◌, ◌<◌, ◌≤◌, List, [], ◌∷◌, ◌++◌, length, get_or, take, drop, set, replicate, Some, None, Option, unwrap_or, sym, ap, ◌∙◌, arith, MatchOption}
 use Rattle.std.proofs.lemmas.List.{append_assoc, length-take-le, length-replicate, set-append_right, drop_more, replicate_more, get_or_past, get_or_default}
 use Rattle.elements.specs.declared.row.Row.{Row}
 use Rattle.elements.specs.Rows.{items}

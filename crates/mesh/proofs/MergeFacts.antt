@@ -5,7 +5,7 @@ use Rattle.elements.specs.First.{distinct, numbers, place, has, PlaceOf}
 use Rattle.elements.proofs.FirstFacts.{get_or-numbers, length-numbers, has-at, distinct-has, place_of, place_injective, fewest, fewest_read}
 use Rattle.mesh.specs.Merging.{renumbered}
 use Rattle.mesh.specs.Merges.{Within, through, looked_up}
-use Rattle.mesh.specs.MergeLaws.{named, ReadsAs, FewestFor, Used, Faithful}
+use Rattle.mesh.specs.MergeLaws.{named, FewestFor, Used, Faithful}
 
 -- ---- numbers that follow their elements
 

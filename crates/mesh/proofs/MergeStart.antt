@@ -1,10 +1,10 @@
 -- The mesh whose attributes are numbered apart can be merged: its numbers name its elements, and each element is named.
-use Rattle.std.proofs.Common.{◌≡◌, ℕ, ◌<◌, Bool, true, false, cond, List, [], ◌∷◌, map, length, get_or, sym, refl, ap, ◌∙◌, subst, arith}
+use Rattle.std.proofs.Common.{◌≡◌, ℕ, true, false, cond, List, [], map, length, get_or, sym, refl, ap, ◌∙◌, subst, arith}
 use Rattle.std.proofs.lemmas.List.{length-map}
 use Rattle.std.proofs.lemmas.Bool.{both_ways}
 use Rattle.elements.specs.declared.corner.VertexIndices.{VertexIndices}
 use Rattle.elements.specs.Contents.{Sources}
-use Rattle.elements.specs.First.{distinct, numbers, place, PlaceOf}
+use Rattle.elements.specs.First.{distinct, numbers, place}
 use Rattle.elements.proofs.FirstFacts.{length-numbers, numbers_back, get_or-numbers, has-at, has-distinct, place_of, place_unique, apart_distinct}
 use Rattle.mesh.specs.Numbering.{some, element, v_of, coloured, one, position_refs, texture_refs, normal_refs, ref_keys, picked, ref_numbers, multi, with_arities}
 use Rattle.mesh.specs.Merges.{Within, Mergeable}

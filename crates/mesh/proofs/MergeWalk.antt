@@ -1,9 +1,8 @@
 -- The walk over the elements that are merged: what holds after the first of them, and at a refusal.
-use Rattle.std.proofs.Common.{◌≡◌, ℕ, ◌+◌, ◌-◌, ◌<◌, ◌≤◌, true, false, cond, eqb, ◌⊎◌, List, [], ◌∷◌, ◌++◌, map, length, get_or, take, drop, set, Some, None, sym, refl, ap, ◌∙◌, subst, inl, inr, ⊎_elim, arith}
-use Rattle.std.proofs.lemmas.List.{length_push, length-map, length-take-le, length-set, map_push, map_more, take-map, take-take, take_more_set, get_or-drop, drop-drop, drop-set-lt, get_or_default}
+use Rattle.std.proofs.Common.{◌≡◌, ℕ, ◌+◌, ◌-◌, ◌<◌, ◌≤◌, cond, eqb, List, [], ◌∷◌, ◌++◌, map, length, get_or, take, drop, set, Some, None, sym, refl, ap, ◌∙◌, subst, ⊎_elim, arith}
+use Rattle.std.proofs.lemmas.List.{length_push, length-map, length-take-le, length-set, map_push, map_more, take-map, take-take, take_more_set, get_or-drop, drop-drop, drop-set-lt}
 use Rattle.std.proofs.lemmas.Bool.{lt-ltb, le-ltb, cond-true, cond-false, eqb-true, eqb-false, cases_Bool}
 use Rattle.elements.specs.declared.row.Row.{Row}
-use Rattle.elements.specs.declared.error.LoadError.{LoadError}
 use Rattle.elements.specs.declared.error.LoadError.TheVariants.{TableFull}
 use Rattle.elements.specs.Checks.{first}
 use Rattle.elements.specs.First.{distinct, numbers, place, entered, PlaceOf, Absent}

@@ -1,5 +1,5 @@
 -- One corner more: the mesh of the corners before it turns into the mesh of all.
-use Rattle.std.proofs.Common.{◌≡◌, ℕ, ◌+◌, ◌-◌, ◌<◌, ◌≤◌, Bool, true, false, cond, ◌||◌, ◌⊎◌, List, [], ◌∷◌, ◌++◌, map, length, replicate, Some, None, sym, refl, ap, ◌∙◌, subst, ⊎_elim, arith}
+use Rattle.std.proofs.Common.{◌≡◌, ℕ, ◌-◌, ◌<◌, ◌≤◌, Bool, true, false, cond, ◌||◌, List, [], ◌∷◌, ◌++◌, map, length, replicate, Some, None, sym, refl, ap, ◌∙◌, subst, ⊎_elim, arith}
 use Rattle.std.proofs.lemmas.Bool.{lt-ltb, le-ltb, both_ways, cases_Bool, cases_lt, not-true, not-false, or_parts, cond-true, cond-false}
 use Rattle.std.proofs.lemmas.List.{length-map, length_push, map_push}
 use Rattle.elements.specs.declared.corner.VertexIndices.{VertexIndices}

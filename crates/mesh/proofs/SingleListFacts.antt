@@ -1,5 +1,5 @@
 -- The lists of a mesh after one corner more was to be written.
-use Rattle.std.proofs.Common.{◌≡◌, ℕ, zero, suc, ◌+◌, ◌-◌, Bool, true, false, cond, not, ◌||◌, eqb, ltb, List, [], ◌∷◌, ◌++◌, map, length, replicate, Some, None, Option, sym, refl, ap, ◌∙◌, subst, ⊎_elim, arith}
+use Rattle.std.proofs.Common.{◌≡◌, ℕ, zero, suc, ◌-◌, Bool, true, false, cond, not, ◌||◌, eqb, ltb, List, [], ◌∷◌, ◌++◌, map, length, replicate, Some, None, Option, sym, refl, ap, ◌∙◌, subst, ⊎_elim, arith}
 use Rattle.std.proofs.lemmas.Bool.{lt-ltb, both_ways, not-true, not-false, or_left, or_right, or_from, or_parts, or_cases, ltb-true}
 use Rattle.std.proofs.lemmas.List.{length-map, length_push, map-append, map_push}
 use Rattle.elements.specs.declared.row.Row.{Row}

@@ -1,21 +1,18 @@
 -- One arity more.
-use Rattle.std.proofs.Common.{◌≡◌, ℕ, ◌+◌, ◌<◌, ◌≤◌, Bool, true, false, cond, ◌||◌, ltb, List, [], ◌∷◌, ◌++◌, map, length, Some, None, Ok, Err, Option, sym, refl, ap, ◌∙◌, subst, arith}
+use Rattle.std.proofs.Common.{◌≡◌, ℕ, ◌+◌, ◌<◌, ◌≤◌, Bool, false, cond, ◌||◌, ltb, List, [], ◌∷◌, ◌++◌, map, length, Some, None, Err, sym, refl, ap, ◌∙◌, subst, arith}
 use Rattle.std.proofs.lemmas.List.{append-nil, length-map, length_push}
 use Rattle.std.proofs.lemmas.Bool.{le-ltb, lt-ltb}
 use Rattle.elements.specs.declared.row.Row.{Row}
 use Rattle.elements.specs.declared.options.LoadOptions.{LoadOptions}
-use Rattle.elements.specs.declared.error.LoadError.{LoadError}
 use Rattle.elements.specs.declared.error.LoadError.TheVariants.{MeshFull}
-use Rattle.elements.specs.Checks.{first}
 use Rattle.elements.specs.Contents.{Sources}
-use Rattle.elements.specs.Rows.{held, items, room, Pushed}
+use Rattle.elements.specs.Rows.{items, room, Pushed}
 use Rattle.elements.proofs.RowFacts.{length-items}
 use Rattle.mesh.specs.declared.lists.Lists.{Lists}
 use Rattle.mesh.specs.Unfold.{Event, arity, corners_of, arities_of}
-use Rattle.mesh.specs.Surface.{Surface, Rooms, over, lacks}
+use Rattle.mesh.specs.Surface.{Surface, over, lacks}
 use Rattle.mesh.specs.Lists.{surface, rooms, Blank, Spare, zero_number}
 use Rattle.mesh.specs.Numbering.{Keys, numbered, with_arities}
-use Rattle.mesh.specs.Rules.{checks_after}
 use Rattle.mesh.specs.Steps.{DrawnOf}
 use Rattle.mesh.specs.Writing.{Stock, Drawn, Kept, Written, Writing}
 use Rattle.mesh.proofs.SingleListFacts.{or_false}

@@ -1,28 +1,27 @@
 -- From written events to the outcome of an export.
-use Rattle.std.proofs.Common.{◌≡◌, ℕ, ◌+◌, ◌-◌, ◌<◌, ◌≤◌, Bool, true, false, cond, ◌&&◌, ltb, List, [], ◌∷◌, ◌++◌, map, length, get_or, Some, None, Ok, Err, filter, Option, Result, sym, refl, ap, ◌∙◌, subst, arith, MatchResult}
+use Rattle.std.proofs.Common.{◌≡◌, ℕ, ◌-◌, Bool, true, false, cond, ◌&&◌, List, [], ◌++◌, map, length, Some, None, Ok, Err, filter, Result, sym, refl, ap, ◌∙◌, subst, arith}
 use Rattle.std.proofs.lemmas.List.{length-map}
 use Rattle.elements.specs.declared.corner.VertexIndices.{VertexIndices}
 use Rattle.elements.specs.declared.options.LoadOptions.{LoadOptions}
 use Rattle.elements.specs.declared.error.LoadError.{LoadError}
 use Rattle.elements.specs.declared.error.LoadError.TheVariants.{InvalidLoadOptionConfig}
 use Rattle.elements.specs.declared.row.Row.{Row}
-use Rattle.elements.specs.Checks.{first, refusal}
+use Rattle.elements.specs.Checks.{first}
 use Rattle.elements.specs.Contents.{Sources, Contents}
-use Rattle.elements.specs.First.{distinct, place, numbers}
+use Rattle.elements.specs.First.{distinct, numbers}
 use Rattle.elements.specs.Rows.{held, items, room}
 use Rattle.elements.specs.Cells.{blanked}
 use Rattle.elements.proofs.FirstFacts.{length-numbers, numbers_back}
 use Rattle.mesh.specs.declared.lists.Lists.{Lists}
 use Rattle.mesh.specs.Unfold.{skips, wanted, events, corners_of, arities_of}
 use Rattle.mesh.specs.Surface.{Surface, empty_surface, Rooms, Capacities}
-use Rattle.mesh.specs.Lists.{surface, rooms, Blank, Spare, zero_number}
+use Rattle.mesh.specs.Lists.{surface, rooms, zero_number}
 use Rattle.mesh.specs.Numbering.{some, element, v_of, one, Keys, coloured, corner_keys, position_refs, texture_refs, normal_refs, single, multi, single_keys, multi_keys, numbered, keyed, with_arities, picked, ref_numbers}
 use Rattle.mesh.specs.Merging.{merged, merge_checks}
 use Rattle.mesh.specs.Merges.{Within, Mergeable}
-use Rattle.mesh.specs.Rules.{all_three, trimmed, unmerged, all_checks, checks_after, verdict, finished}
-use Rattle.mesh.specs.Steps.{DrawnOf}
-use Rattle.mesh.specs.Writing.{Stock, no_keys, Drawn, Wrote, Stopped, Kept, Written, Writing, Merging}
-use Rattle.mesh.specs.Outcome.{Trimmed, Made, Finishing, Filling}
+use Rattle.mesh.specs.Rules.{all_three, trimmed, unmerged, all_checks, verdict}
+use Rattle.mesh.specs.Writing.{Stock, no_keys, Drawn, Written, Writing, Merging}
+use Rattle.mesh.specs.Outcome.{Trimmed, Finishing, Filling}
 use Rattle.mesh.proofs.UnfoldFacts.{first_pass, first_stop}
 use Rattle.mesh.proofs.UnfoldCells.{items-none, spare-cleared}
 use Rattle.mesh.proofs.UnfoldArity.{with_row, rooms_row, blank_row}

@@ -1,22 +1,22 @@
 -- Laws of events, and of writing them one after the other.
-use Rattle.std.proofs.Common.{◌≡◌, ℕ, ◌+◌, ◌<◌, ◌≤◌, Bool, true, false, cond, ◌||◌, ltb, List, [], ◌∷◌, ◌++◌, map, length, get_or, take, drop, is_ok, IfOk, Some, None, Ok, Err, filter, Option, Result, sym, refl, ap, ◌∙◌, subst, arith, MatchResult}
+use Rattle.std.proofs.Common.{◌≡◌, ℕ, Bool, true, false, cond, List, [], ◌∷◌, ◌++◌, is_ok, IfOk, Some, None, Ok, Err, Result, sym, refl, ap, ◌∙◌, subst, arith, MatchResult}
 use Rattle.std.specs.List.{flat_map}
 use Rattle.std.proofs.lemmas.List.{append-nil, append_assoc}
 use Rattle.std.proofs.lemmas.Result.{MatchResult-weaker}
 use Rattle.elements.specs.declared.corner.VertexIndices.{VertexIndices}
 use Rattle.elements.specs.declared.options.LoadOptions.{LoadOptions}
 use Rattle.elements.specs.declared.error.LoadError.{LoadError}
-use Rattle.elements.specs.declared.error.LoadError.TheVariants.{InvalidPolygon, MeshFull}
+use Rattle.elements.specs.declared.error.LoadError.TheVariants.{InvalidPolygon}
 use Rattle.elements.specs.Checks.{first}
 use Rattle.elements.specs.Contents.{Sources}
 use Rattle.elements.specs.First.{distinct}
 use Rattle.mesh.specs.declared.lists.Lists.{Lists}
-use Rattle.mesh.specs.Unfold.{Event, corner, arity, no_corner, events, face_events, corner_in, arity_in, corners_of, arities_of, wanted}
+use Rattle.mesh.specs.Unfold.{Event, corner, no_corner, corner_in, arity_in, corners_of, arities_of}
 use Rattle.mesh.specs.Surface.{Surface, Rooms, Capacities}
-use Rattle.mesh.specs.Lists.{surface, rooms, Blank}
-use Rattle.mesh.specs.Numbering.{Keys, corner_keys, single, multi, single_keys, multi_keys, numbered, keyed, with_arities}
+use Rattle.mesh.specs.Lists.{surface, rooms}
+use Rattle.mesh.specs.Numbering.{Keys, corner_keys, single, multi, single_keys, multi_keys, with_arities}
 use Rattle.mesh.specs.Rules.{single_checks, multi_checks, corner_checks, checks, checks_after}
-use Rattle.mesh.specs.Steps.{SingleOf, MultiOf, DrawnOf, AddsSingle, AddsMulti, Adds}
+use Rattle.mesh.specs.Steps.{DrawnOf, AddsSingle, AddsMulti, Adds}
 use Rattle.mesh.specs.Writing.{Stock, Drawn, Wrote, Stopped, Kept, Written, Writing}
 
 -- ---- the first check that holds

@@ -1,7 +1,7 @@
 -- Waiting faces, one after the other.
-use Rattle.std.proofs.Common.{◌≡◌, ℕ, ◌+◌, ◌-◌, ◌<◌, ◌≤◌, Bool, true, false, cond, not, List, [], ◌∷◌, ◌++◌, map, length, get_or, take, drop, filter, sym, refl, ap, ◌∙◌, subst, arith}
+use Rattle.std.proofs.Common.{◌≡◌, ℕ, ◌+◌, ◌-◌, ◌<◌, ◌≤◌, Bool, true, false, cond, not, List, [], ◌∷◌, ◌++◌, length, get_or, take, drop, filter, sym, refl, ap, ◌∙◌, subst, arith}
 use Rattle.std.specs.List.{flat_map}
-use Rattle.std.proofs.lemmas.List.{append-nil, append_assoc, length-map, length-append, length-drop, length-take-le, get_or-map, get_or-take, take_more, take-take, drop-take, take-append-drop}
+use Rattle.std.proofs.lemmas.List.{append-nil, length-take-le, get_or-map, take_more, take-take, drop-take, take-append-drop}
 use Rattle.std.proofs.lemmas.List.Elements.{filter-append}
 use Rattle.std.proofs.lemmas.List.Filters.{length-filter_more, length-filter_both}
 use Rattle.elements.specs.declared.corner.VertexIndices.{VertexIndices}
@@ -9,13 +9,13 @@ use Rattle.elements.specs.declared.corner.Face.{Face}
 use Rattle.elements.specs.declared.options.LoadOptions.{LoadOptions}
 use Rattle.elements.specs.declared.waiting.Waiting.{Waiting}
 use Rattle.elements.specs.Contents.{faces_of}
-use Rattle.elements.specs.Rows.{held, items, room}
+use Rattle.elements.specs.Rows.{held, items}
 use Rattle.elements.specs.Tiles.{part}
 use Rattle.elements.proofs.RowFacts.{length-items, item_at}
 use Rattle.elements.proofs.TileFacts.{tiles-at}
 use Rattle.mesh.specs.declared.unfold.Unfolding.{Unfolding}
 use Rattle.mesh.specs.declared.unfold.Unfolding.TheVariants.{Skipped, Empty, Point, Line, Fan, Plain}
-use Rattle.mesh.specs.Unfold.{Event, skips, wanted, triangles, face_events, events}
+use Rattle.mesh.specs.Unfold.{skips, wanted, triangles, face_events, events}
 use Rattle.mesh.specs.Ways.{Unfolds, left_out}
 use Rattle.mesh.proofs.UnfoldFacts.{joined-append}
 

@@ -2,7 +2,7 @@
 --   surface l     what they contain
 --   rooms l       what they have room for
 --   Blank l       every cell past a list's count is zero
-use Rattle.std.specs.Prelude.{ℕ, Bool, ◌&&◌, T, List, map, drop, ◌==◌}
+use Rattle.std.specs.Prelude.{ℕ, Bool, ◌&&◌, T, map, drop, ◌==◌}
 use Rattle.std.specs.List.{list_all}
 use Rattle.elements.specs.declared.point.Point.{Point}
 use Rattle.elements.specs.declared.point.Pair.{Pair}

@@ -18,7 +18,6 @@ use Rattle.elements.specs.declared.row.Row.{Row}
 use Rattle.elements.specs.declared.point.Point.{Point}
 use Rattle.elements.specs.declared.point.Pair.{Pair}
 use Rattle.elements.specs.Bits.{point_bits, pair_bits}
-use Rattle.elements.specs.Checks.{first}
 use Rattle.elements.specs.Contents.{Sources}
 use Rattle.elements.specs.Rows.{items}
 use Rattle.tables.specs.declared.key.Reference.{Reference}

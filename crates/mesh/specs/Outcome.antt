@@ -10,7 +10,7 @@
 --   Finishing       the arities were trimmed, and the mesh merged where that is asked for
 --   Filling         the waiting faces were written into lists and tables that were empty, and the mesh was finished
 --   Exported        all that an export does: when it is refused, and what it leaves
-use Rattle.std.specs.Prelude.{◌≡◌, ℕ, Bool, true, cond, T, List, [], length, IfOk, IfErr, Some, None, vec_items, filter, Option, Result, MatchResult, OnOk}
+use Rattle.std.specs.Prelude.{◌≡◌, ℕ, Bool, cond, T, [], length, IfOk, IfErr, None, vec_items, filter, Option, Result, MatchResult, OnOk}
 use Rattle.std.specs.List.{list_all}
 use Rattle.elements.specs.declared.row.Row.{Row}
 use Rattle.elements.specs.declared.options.LoadOptions.{LoadOptions}
@@ -18,7 +18,7 @@ use Rattle.elements.specs.declared.error.LoadError.{LoadError}
 use Rattle.elements.specs.Cells.{room_of}
 use Rattle.elements.specs.Checks.{first, refusal}
 use Rattle.elements.specs.Contents.{Contents}
-use Rattle.elements.specs.Rows.{held, items}
+use Rattle.elements.specs.Rows.{held}
 use Rattle.mesh.specs.declared.cells.Cells.{Cells}
 use Rattle.mesh.specs.declared.lists.Lists.{Lists}
 use Rattle.mesh.specs.declared.mesh.Mesh.{Mesh}

@@ -6,7 +6,7 @@
 --   all_checks o s rs n es  those of the events es, one after the other
 --   verdict                 why an export is refused, or none
 --   finished                the mesh of a granted one
-use Rattle.std.specs.Prelude.{ℕ, Bool, true, cond, not, ◌&&◌, List, [], ◌∷◌, ◌++◌, length, Option, ◌==◌, nat_le}
+use Rattle.std.specs.Prelude.{ℕ, Bool, true, cond, ◌&&◌, List, [], ◌∷◌, ◌++◌, length, Option, ◌==◌, nat_le}
 use Rattle.elements.specs.declared.corner.VertexIndices.{VertexIndices}
 use Rattle.elements.specs.declared.options.LoadOptions.{LoadOptions}
 use Rattle.elements.specs.declared.error.LoadError.{LoadError}

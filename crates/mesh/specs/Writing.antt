@@ -7,7 +7,7 @@
 --   Written      the events fs were written
 --   Writing      what a call did that was to write the events fs and answered r
 --   Merging      what a call did that was to merge a mesh and answered r
-use Rattle.std.specs.Prelude.{◌≡◌, ℕ, List, [], ◌∷◌, ◌++◌, Some, None, Result, MatchResult, OnOk}
+use Rattle.std.specs.Prelude.{◌≡◌, ℕ, List, [], ◌++◌, Some, None, Result, MatchResult, OnOk}
 use Rattle.elements.specs.declared.options.LoadOptions.{LoadOptions}
 use Rattle.elements.specs.declared.error.LoadError.{LoadError}
 use Rattle.elements.specs.Checks.{first, refusal}

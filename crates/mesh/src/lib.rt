@@ -1,3 +1,5 @@
+#![tactic(auto)]
+
 pub mod cells;
 pub(crate) mod clear;
 pub(crate) mod enter;
@@ -10,7 +12,7 @@ pub mod meshes;
 pub(crate) mod multi;
 pub mod numbering;
 pub(crate) mod single;
+pub mod six_tables;
 pub(crate) mod stream;
-pub mod tables;
 pub(crate) mod trim;
 pub(crate) mod unfold;

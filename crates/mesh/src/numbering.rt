@@ -7,7 +7,7 @@ use crate::lists::Lists;
 use crate::merge_all::merge_points;
 use crate::multi::add_vertex_multi_index;
 use crate::single::add_vertex;
-use crate::tables::Tables;
+use crate::six_tables::Tables;
 use elements::attributes::Attributes;
 use elements::corner::VertexIndices;
 use elements::error::LoadError;

@@ -1,7 +1,7 @@
 use Rattle.std.proofs.Common.{◌≡◌, ℕ, ◌+◌, ◌<◌, Bool, true, false, cond, not, List, [], ◌∷◌, ◌++◌, length, get_or, drop, sym, refl, ap, ◌∙◌, subst, arith}
 use Rattle.std.proofs.lemmas.List.{append-nil, nil_from_length}
 use Rattle.std.proofs.lemmas.Bool.{cond-true, cond-false, and_parts, and_from, not_from_false, not-true}
-use Rattle.reading.specs.Pieces.{Stretch, onto, pieces, stretches, filled, space, tokens_from, tokens}
+use Rattle.reading.specs.Pieces.{Stretch, onto, pieces, stretches, filled, space, tokens_from}
 use Rattle.reading.specs.Laws.{blank, uncut, ended, Laid, Rejoined}
 use Rattle.reading.proofs.TokenFacts.{tokens-space, keep_cons}
 

@@ -1,6 +1,6 @@
 -- What a face text means: its tokens' corners in order, if every token reads. And what is left in the cells that
 -- these are written into.
-use Rattle.std.specs.Prelude.{◌≡◌, ℕ, ◌+◌, ◌≤◌, Bool, true, false, cond, List, [], ◌∷◌, ◌++◌, map, length, take, drop, is_some, Some, None, Option, nat_le}
+use Rattle.std.specs.Prelude.{◌≡◌, ℕ, ◌+◌, ◌≤◌, Bool, false, cond, List, [], ◌∷◌, ◌++◌, map, length, take, drop, is_some, Some, None, Option, nat_le}
 use Rattle.std.specs.Option.{option_map}
 use Rattle.elements.specs.Cells.{room_of}
 use Rattle.elements.specs.declared.corner.VertexIndices.{VertexIndices}

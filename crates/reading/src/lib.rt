@@ -1,3 +1,5 @@
+#![tactic(auto)]
+
 pub mod counts;
 pub mod face;
 mod number;

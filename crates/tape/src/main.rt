@@ -6,7 +6,7 @@ use book::calls::Answer;
 use elements::corner::{Face, MISSING_INDEX, VertexIndices};
 use elements::point::{Pair, Point};
 use mesh::mesh::Mesh;
-use mesh::tables::Tables;
+use mesh::six_tables::Tables;
 use records::line::Line;
 use records::play::play;
 use std::alloc::{AllocError, Global};

@@ -2,6 +2,6 @@ use Rattle.std.proofs.Common.{refl}
 use lib.Ieee.{is_nan, of_bits}
 use Rattle.tape.proofs.blank_book.Goals as goal
 
-pub invariant-of-vec : goal.invariant-of-vec
+pub invariant_of-vec : goal.invariant_of-vec
 unfolding is_nan of_bits
-invariant-of-vec c = ((refl, refl, refl), tt)
+invariant_of-vec c = record { numbers = (refl, refl, refl) }

@@ -3,8 +3,8 @@ use Rattle.reading.specs.Face.{face}
 use Rattle.book.proofs.CornerFacts.{same-room, kept_fits, kept-cells, answer_is, more_fits, extended, never}
 use Rattle.book.proofs.face.append_corners.Goals as goal
 
-pub invariant-of-row : goal.invariant-of-row
-invariant-of-row c = (kept_fits c.args.row.now c.deref_mut.result.now c.parse_face.new.cells c.deref_mut.ensures.value c.parse_face.auto.cells, tt)
+pub invariant_of-row : goal.invariant_of-row
+invariant_of-row c = (kept_fits c.args.row.now c.deref_mut.result.now c.parse_face.new.cells c.deref_mut.ensures.value c.parse_face.auto.cells, tt)
 
 pub returns-in_default : goal.returns-in_default
 returns-in_default c =
@@ -22,8 +22,8 @@ returns-in_default c =
       room = same-room row old new e n;
     }
 
-pub invariant-of-row-2 : goal.invariant-of-row-2
-invariant-of-row-2 c = (
+pub invariant_of-row-2 : goal.invariant_of-row-2
+invariant_of-row-2 c = (
   more_fits c.args.row.now c.deref_mut.result.now c.parse_face.new.cells c.deref_mut.ensures.value c.parse_face.auto.cells
       (face c.args.counts c.args.text.now) c.in-Some.count c.in-Some.ensures.answer,
   tt,

@@ -28,8 +28,8 @@ returns-in_default c =
       face_room = refl;
     }
 
-pub invariant-of-waiting-2 : goal.invariant-of-waiting-2
-invariant-of-waiting-2 c =
+pub invariant_of-waiting-2 : goal.invariant_of-waiting-2
+invariant_of-waiting-2 c =
     let w = c.args.waiting.now in
     let h = c.in-Some.ensures in
     let f = fitted (face c.args.counts c.args.text.now) w.corners.count (room w.corners) c.in-Some.count h.answer in

@@ -1,13 +1,13 @@
-use Rattle.std.proofs.Common.{◌≡◌, refl}
+use Rattle.std.proofs.Common.{refl}
 use lib.Ieee.{is_nan, of_bits, to_bits}
 use Rattle.mesh.specs.declared.lists.Lists.{Lists}
 use Rattle.mesh.specs.Lists.{zero_number, zero_point, zero_pair}
 use Rattle.mesh.proofs.UnfoldCells.{surface-none, spare-cleared, zeros-cleared}
 use Rattle.mesh.proofs.clear.clear_lists.Goals as goal
 
-pub invariant-of-clear : goal.invariant-of-clear
+pub invariant_of-clear : goal.invariant_of-clear
 unfolding is_nan of_bits
-invariant-of-clear c = ((refl, refl, refl), tt)
+invariant_of-clear c = record { numbers = (refl, refl, refl) }
 
 pub returns : goal.returns
 unfolding to_bits of_bits

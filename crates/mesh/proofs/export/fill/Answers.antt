@@ -1,4 +1,4 @@
-use Rattle.std.proofs.Common.{◌≡◌, false, ◌&&◌, sym, arith}
+use Rattle.std.proofs.Common.{sym, arith}
 use Rattle.std.proofs.lemmas.Bool.{not-true}
 use Rattle.elements.proofs.TileFacts.{faces-waiting}
 use Rattle.elements.specs.Contents.{contents, faces_of}

@@ -4,8 +4,8 @@ use Rattle.mesh.specs.Merges.{too_many}
 use Rattle.mesh.proofs.MergeRows.{lent_fits, few_back, firsts_back, stirred_back}
 use Rattle.mesh.proofs.merge.close_up.Goals as goal
 
-pub invariant-of-points : goal.invariant-of-points
-invariant-of-points g c = (lent_fits c.args.points.now c.deref_mut.result.now c.keep_firsts.new.cells c.deref_mut.ensures.value c.keep_firsts.auto.cells, tt)
+pub invariant_of-points : goal.invariant_of-points
+invariant_of-points g c = record { fits = lent_fits c.args.points.now c.deref_mut.result.now c.keep_firsts.new.cells c.deref_mut.ensures.value c.keep_firsts.auto.cells }
 
 pub returns : goal.returns
 returns g c =

@@ -2,7 +2,7 @@ use Rattle.std.proofs.Common.{◌≡◌, ℕ, ◌≤◌, length, sym, refl, ◌�
 use Rattle.elements.specs.Rows.{room}
 use Rattle.std.proofs.lemmas.Bool.{ltb-false, ltb-true}
 use Rattle.mesh.proofs.EnteringFacts.{took, met_full}
-use Rattle.mesh.proofs.MergeWalk.{Walked, noted, walked_next, walked_full, walked_rest, walked_none, walked_all}
+use Rattle.mesh.proofs.MergeWalk.{noted, walked_next, walked_full, walked_rest, walked_none, walked_all}
 use Rattle.mesh.proofs.merge.keep_firsts.Goals as goal
 
 pub loop-at-init : goal.loop-at-init
@@ -31,8 +31,8 @@ returns-then-not-push g c =
     let l = c.loop-at-test.true in
     absurd (omega arith)
 
-pub keep_firsts-requires : goal.keep_firsts-requires
-keep_firsts-requires g c =
+pub keep-firsts-requires : goal.keep-firsts-requires
+keep-firsts-requires g c =
     let h = c.loop-at.invariant.2.few in
     let k = c.loop-at.invariant.2.long in
     let p = c.requires.inside in
@@ -54,7 +54,7 @@ loop-at-preserved g c =
       c.enter.ensures.sound inv.0,
       same,
       walked_next g.E.Key.meaning cap c.args.cells.now c.loop-at.at c.loop-at.cells c.loop-at.firsts c.args.remap.now c.loop-at.remap _ (omega arith) inv.2
-          x c.index-cells-at.is c.in-Some.place ks c.push.new.self placed fit pushed free c.keep_firsts.new.cells c.keep_firsts.result c.keep_firsts.ensures.cells c.keep_firsts.ensures.firsts,
+          x c.index-cells-at.is c.in-Some.place ks c.push.new.self placed fit pushed free c.keep-firsts.new.cells c.keep-firsts.result c.keep-firsts.ensures.cells c.keep-firsts.ensures.firsts,
     )
 
 pub returns : goal.returns

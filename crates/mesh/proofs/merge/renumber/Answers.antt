@@ -3,8 +3,8 @@ use Rattle.mesh.specs.Merges.{through, looked_up}
 use Rattle.mesh.proofs.MergeRows.{lent_fits, lent_steady, mapped_items, mapped_rest}
 use Rattle.mesh.proofs.merge.renumber.Goals as goal
 
-pub invariant-of-indices : goal.invariant-of-indices
-invariant-of-indices c = (lent_fits c.args.indices.now c.deref_mut.result.now c.renumber_cells.new.numbers c.deref_mut.ensures.value c.renumber_cells.auto.numbers, tt)
+pub invariant_of-indices : goal.invariant_of-indices
+invariant_of-indices c = record { fits = lent_fits c.args.indices.now c.deref_mut.result.now c.renumber_cells.new.numbers c.deref_mut.ensures.value c.renumber_cells.auto.numbers }
 
 pub returns : goal.returns
 unfolding looked_up

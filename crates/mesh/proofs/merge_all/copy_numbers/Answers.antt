@@ -1,10 +1,10 @@
-use Rattle.std.proofs.Common.{◌≡◌, ◌≤◌, length, take, ap, ◌∙◌, arith}
+use Rattle.std.proofs.Common.{◌≤◌, ◌∙◌, arith}
 use Rattle.std.proofs.lemmas.List.{take_all}
 use Rattle.std.proofs.lemmas.Bool.{lt-ltb}
 use Rattle.elements.specs.Rows.{items, room}
 use Rattle.elements.proofs.RowFacts.{length-items}
 use Rattle.mesh.proofs.MergeRows.{steady-same, steady_then}
-use Rattle.mesh.proofs.MergeAll.{Copying, copying_more}
+use Rattle.mesh.proofs.MergeAll.{copying_more}
 use Rattle.mesh.proofs.merge_all.copy_numbers.Goals as goal
 
 pub loop-at-init : goal.loop-at-init

@@ -1,4 +1,4 @@
-use Rattle.std.proofs.Common.{◌≡◌, false, sym, refl, ◌∙◌, arith}
+use Rattle.std.proofs.Common.{false, sym, refl, ◌∙◌, arith}
 use lib.Ieee.{is_nan, of_bits, to_bits}
 use Rattle.elements.specs.Checks.{refusal}
 use Rattle.elements.specs.Rows.{items}
@@ -12,9 +12,9 @@ number_colours-requires g c =
     let a = c.args.lists.now in
     (roomy a (lacking_at a c.shorten.new.row c.shorten.ensures.steady.room false (sym c.lacks_cells.ensures ∙ c.if-lacks_cells.false))).colours
 
-pub invariant-of-merge_lists : goal.invariant-of-merge_lists
+pub invariant_of-merge_lists : goal.invariant_of-merge_lists
 unfolding is_nan of_bits
-invariant-of-merge_lists g c = ((refl, refl, refl), tt)
+invariant_of-merge_lists g c = record { numbers = (refl, refl, refl) }
 
 pub merge_lists-requires : goal.merge_lists-requires
 merge_lists-requires g c =

@@ -1,13 +1,13 @@
-use Rattle.std.proofs.Common.{◌≡◌, refl}
+use Rattle.std.proofs.Common.{refl}
 use lib.Ieee.{is_nan, of_bits, to_bits}
 use Rattle.mesh.specs.declared.lists.Lists.{Lists}
 use Rattle.mesh.specs.Lists.{zero_number, zero_point, zero_pair}
 use Rattle.mesh.proofs.UnfoldCells.{surface-none, spare_made, zeros-made, room-made}
 use Rattle.mesh.proofs.meshes.blank_lists.Goals as goal
 
-pub invariant-of-blank_row : goal.invariant-of-blank_row
+pub invariant_of-blank_row : goal.invariant_of-blank_row
 unfolding is_nan of_bits
-invariant-of-blank_row c = ((refl, refl, refl), tt)
+invariant_of-blank_row c = record { numbers = (refl, refl, refl) }
 
 pub returns : goal.returns
 unfolding to_bits of_bits

@@ -17,7 +17,7 @@ returns-in_err-found g c =
       sound = λ h. h;
       within = λ _ h. h;
       adds = λ _ _ n _ ks ns cs st.
-          let p = err_from_is_err_and c.from-residual.result c.from-residual.ensures.1 in
+          let p = err_from_is_err_and c.from_residual.result c.from_residual.ensures.1 in
           rw (p.1, p.2) (refused-reference (sources a) (rooms c.args.lists.now) n ns cs c.args.vert _ (misses_first a c.args.vert _ c.in_err-found.ensures));
     }
 
@@ -35,7 +35,7 @@ returns-in_err-corner g c =
       sound = λ h. (t.positions.sound h.0, t.textures.sound h.1, t.normals.sound h.2);
       within = λ h w. (t.textures.within h.0 w.0, t.normals.within h.1 w.1);
       adds = λ so w n caps ks ns cs st.
-          let p = err_from_is_err_and c.from-residual-in_err-corner.result c.from-residual-in_err-corner.ensures.1 in
+          let p = err_from_is_err_and c.from_residual-in_err-corner.result c.from_residual-in_err-corner.ensures.1 in
           let e = c.in_err-corner.ensures.numbers in
           let b = looks_brings a v c.args.lists.now c.in_ok-found.found found ns cs st.surface in
           rw (p.1, p.2) (refused_table (sources a) (rooms c.args.lists.now) n ns cs v (looks_first a v c.args.lists.now c.in_ok-found.found found)

@@ -12,7 +12,7 @@ returns-in_err-vertex g c =
     let a = c.args.attributes.now in
     let k = c.args.vert in
     let e = c.in_err-vertex.field-0.0 in
-    let p = err_from_is_err_and c.from-residual.result c.from-residual.ensures.1 in
+    let p = err_from_is_err_and c.from_residual.result c.from_residual.ensures.1 in
     record {
       rooms = refl;
       capacity = refl;

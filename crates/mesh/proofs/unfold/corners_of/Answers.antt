@@ -1,4 +1,4 @@
-use Rattle.std.proofs.Common.{◌≡◌, ℕ, ◌+◌, ◌-◌, ◌≤◌, length, take, drop, ap, ◌∙◌, arith, rules}
+use Rattle.std.proofs.Common.{◌≡◌, ◌+◌, ◌-◌, ◌≤◌, length, take, drop, ap, ◌∙◌, arith, rules}
 use Rattle.std.proofs.lemmas.List.{length-take}
 use Rattle.mesh.proofs.UnfoldWaiting.{face-inside, face_fits, face-corners, face_short}
 use Rattle.mesh.proofs.unfold.corners_of.Goals as goal
@@ -21,8 +21,8 @@ offset_bounds-corners-start c =
     let small : f.start ≤ 16777216 = omega arith in
     search rules
 
-pub slice-bounds-result-end : goal.slice-bounds-result-end
-slice-bounds-result-end c =
+pub slice_bounds-result-end : goal.slice_bounds-result-end
+slice_bounds-result-end c =
     let f = c.index-face.result.now in
     let x = face_fits c.args.waiting.now c.args.at c.requires f c.index-face.ensures in
     let e = ap length c.deref-corners.ensures.value in

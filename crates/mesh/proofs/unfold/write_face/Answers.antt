@@ -1,4 +1,4 @@
-use Rattle.std.proofs.Common.{◌≡◌, map, sym, ap, ◌∙◌, subst}
+use Rattle.std.proofs.Common.{map, sym, ap, ◌∙◌, subst}
 use Rattle.mesh.specs.declared.unfold.Unfolding.TheVariants.{Line}
 use Rattle.mesh.specs.Unfold.{corner}
 use Rattle.mesh.specs.Ways.{Unfolds}

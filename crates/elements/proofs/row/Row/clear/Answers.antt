@@ -1,4 +1,4 @@
-use Rattle.std.proofs.Common.{◌≡◌, length, vec_items, ap, ◌∙◌}
+use Rattle.std.proofs.Common.{length, vec_items, ap, ◌∙◌}
 use Rattle.elements.specs.Cells.{room_of, blanked}
 use Rattle.elements.proofs.CellFacts.{length-blanked}
 use Rattle.elements.proofs.RowFacts.{blanked_refill}

@@ -1,4 +1,4 @@
-use Rattle.std.proofs.Common.{◌≡◌, true, is_ok, Ok, Err, Result, refl, MatchResult}
+use Rattle.std.proofs.Common.{refl}
 use Rattle.mesh.specs.Surface.{Capacities}
 use Rattle.mesh.proofs.UnfoldFacts.{cases_ok}
 use Rattle.mesh.proofs.numbering.TablesNumbering.merge.Goals as goal
