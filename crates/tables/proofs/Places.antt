@@ -1,10 +1,10 @@
 -- What the first cells of a table mean, and what a table answers of them.
-use Rattle.std.proofs.Common.{◌≡◌, ℕ, ◌+◌, ◌-◌, ◌<◌, ◌≤◌, min, true, false, List, [], ◌∷◌, ◌++◌, map, length, get_or, take, set, Some, None, sym, refl, ap, ◌∙◌, subst, arith}
+use Rattle.std.proofs.Common.{◌≡◌, ℕ, ◌+◌, ◌<◌, ◌≤◌, min, List, [], ◌∷◌, ◌++◌, map, length, get_or, take, set, Some, None, sym, ap, ◌∙◌, subst, arith}
 use Rattle.std.proofs.lemmas.List.{length-map, length-take-le, length-set, get_or-map, get_or-take, take-map, take_more_set, map_push}
 use Rattle.std.proofs.lemmas.Bool.{both_ways}
-use Rattle.elements.specs.First.{has, place, entered, PlaceOf, Absent, Apart}
-use Rattle.elements.proofs.FirstFacts.{has-at, lacks_absent, place_unique, place_none, entered-old, entered-new, apart-entered}
-use Rattle.tables.specs.Tables.{Fit, Found, Placed, Refused, Entering}
+use Rattle.elements.specs.First.{has, PlaceOf, Apart}
+use Rattle.elements.proofs.FirstFacts.{has-at, place_unique, place_none, entered-old, entered-new, apart-entered}
+use Rattle.tables.specs.Tables.{Fit, Found, Placed}
 use Rattle.tables.specs.Searching.{meanings, Searched}
 
 -- what is read of a cell, by its meaning

@@ -1,12 +1,11 @@
 -- What a walk over the slots says of the keys, and a hashed table after a new key.
-use Rattle.std.proofs.Common.{◌≡◌, ℕ, ◌+◌, ◌-◌, ◌*◌, ◌<◌, ◌≤◌, min, ◌≢◌, ◌⊎◌, List, [], ◌∷◌, ◌++◌, map, length, get_or, take, drop, set, replicate, Some, None, sym, refl, ap, ◌∙◌, subst, inl, inr, arith}
-use Rattle.std.proofs.lemmas.List.{length-set, length_push, get_or-set_same, get_or-set_other, get_or_append_left, get_or_push, get_or_past, get_or-replicate, length-replicate, take_at}
+use Rattle.std.proofs.Common.{◌≡◌, ℕ, ◌+◌, ◌-◌, ◌*◌, ◌<◌, ◌≤◌, min, ◌≢◌, ◌⊎◌, List, [], ◌∷◌, ◌++◌, map, length, get_or, take, drop, set, replicate, Some, None, sym, ap, ◌∙◌, subst, inl, inr, arith}
+use Rattle.std.proofs.lemmas.List.{length-set, get_or-set_same, get_or-set_other, get_or_append_left, get_or_push, get_or_past, get_or-replicate, length-replicate, take_at}
 use Rattle.std.proofs.lemmas.Bool.{cases_eq, cases_lt}
-use Rattle.elements.specs.First.{Absent, Apart}
 use Rattle.elements.proofs.FirstFacts.{lacks_absent}
 use Rattle.tables.specs.Tables.{Fit, Found}
 use Rattle.tables.specs.Searching.{meanings}
-use Rattle.tables.specs.Hashing.{slot_of, used, Taken, Leads, Reach, Hashed}
+use Rattle.tables.specs.Hashing.{slot_of, Taken, Leads, Reach, Hashed}
 use Rattle.tables.specs.Probes.{Other, Passed, FoundAt, FreeAt}
 use Rattle.tables.proofs.Places.{at_map, length-meanings, get_or-meanings, meanings_push, found_some, apart_push}
 use Rattle.tables.proofs.Slots.{used_all, used-none, used-set}

@@ -1,3 +1,5 @@
+#![tactic(auto)]
+
 pub mod hashed;
 mod held;
 pub mod key;

@@ -54,11 +54,11 @@ loop-corner-preserved g c =
           let same = h.capacity ∙ c.loop-corner.invariant.1 in
           let count = ap length more in
           let within = (h.fit s).within in
-          subst P (sym w.named_is) (h.sound s, same, more, omega arith)
+          subst P (sym w.named-is) (h.sound s, same, more, omega arith)
       | else-corner-positions w ↦
           let skip = named_skip n cs i d c.loop-corner-test.true w.if-corner-positions.false in
           let Q : List (List ℕ) → Type 0 = λ ls. length ls ≤ g.T.CornerTable.capacity c.empty.new.self in
-          subst P (sym w.named_is) (s, c.loop-corner.invariant.1, c.loop-corner.invariant.2 ∙ sym skip, subst Q (sym skip) c.loop-corner.invariant.3)
+          subst P (sym w.named-is) (s, c.loop-corner.invariant.1, c.loop-corner.invariant.2 ∙ sym skip, subst Q (sym skip) c.loop-corner.invariant.3)
     ]
 
 pub returns : goal.returns

@@ -1,4 +1,4 @@
-use Rattle.std.proofs.Common.{◌≡◌, ℕ, ◌*◌, ◌/◌, ◌<◌, refl, mul-lt-mul_of_pos_right, arith}
+use Rattle.std.proofs.Common.{◌*◌, ◌/◌, ◌<◌, refl, mul-lt-mul_of_pos_right, arith}
 use Rattle.std.proofs.lemmas.Nat.{div_below}
 use Rattle.tables.specs.Hashing.{slot_of}
 use Rattle.tables.proofs.probe.first_slot.Goals as goal

@@ -1,4 +1,4 @@
-use Rattle.std.proofs.Common.{◌≡◌, ℕ, ◌<◌, ◌≤◌, [], map, length, get_or, sym, ◌∙◌, arith, below_more}
+use Rattle.std.proofs.Common.{◌≡◌, ◌<◌, [], map, length, get_or, sym, ◌∙◌, arith, below_more}
 use Rattle.elements.proofs.FirstFacts.{lacks_absent}
 use Rattle.tables.specs.Searching.{meanings}
 use Rattle.tables.proofs.Places.{at_map, length-meanings, get_or-meanings, found_some, searched_fit}

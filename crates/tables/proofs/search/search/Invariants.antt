@@ -1,4 +1,4 @@
-use Rattle.std.proofs.Common.{◌≡◌, ℕ, ◌<◌, List, [], map, get_or}
+use Rattle.std.proofs.Common.{◌≡◌, ℕ, ◌<◌, [], map, get_or}
 use Rattle.tables.proofs.search.search.Given as goal
 
 -- none of the cells that were passed has the key's meaning

@@ -1,4 +1,4 @@
-use Rattle.std.proofs.Common.{vec_items, sym, refl}
+use Rattle.std.proofs.Common.{vec_items, refl}
 use Rattle.tables.proofs.Probing.{hashed_fresh}
 use Rattle.tables.proofs.hashed.HashedTable.new.Goals as goal
 

@@ -1,4 +1,4 @@
-use Rattle.std.proofs.Common.{◌≡◌, ℕ, ◌+◌, ◌<◌, min, length, vec_items, sym, refl, ap, ◌∙◌, arith}
+use Rattle.std.proofs.Common.{ℕ, ◌+◌, min, length, vec_items, sym, refl, ap, ◌∙◌, arith}
 use Rattle.std.proofs.lemmas.Bool.{leb-true, leb-false}
 use Rattle.tables.proofs.Places.{pushed_room, pushed-keys, placed_old, placed_new}
 use Rattle.tables.proofs.Probing.{hashed_length, hashed_fit, hashed_pushed, found_found, free_found, past_never}

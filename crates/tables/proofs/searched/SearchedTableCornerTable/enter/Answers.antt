@@ -1,4 +1,4 @@
-use Rattle.std.proofs.Common.{◌≡◌, ◌<◌, ◌≤◌, min, length, vec_items, sym, refl, ◌∙◌, arith}
+use Rattle.std.proofs.Common.{min, length, vec_items, sym, refl, ◌∙◌, arith}
 use Rattle.std.proofs.lemmas.Bool.{leb-true, leb-false}
 use Rattle.tables.proofs.Places.{pushed_room, pushed-keys, searched_fit, searched_length, searched_push, placed_old, placed_new}
 use Rattle.tables.proofs.searched.SearchedTableCornerTable.enter.Goals as goal
