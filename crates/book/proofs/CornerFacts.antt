@@ -1,12 +1,12 @@
 -- Corners that are appended to a list.
-use Rattle.std.proofs.Common.{◌≡◌, ℕ, ◌+◌, ◌<◌, ◌≤◌, Bool, true, false, cond, leb, List, [], ◌∷◌, ◌++◌, length, take, drop, Some, None, Option, sym, refl, ap, ◌∙◌, subst, ⊎_elim, arith}
+use Rattle.std.proofs.Common.{◌≡◌, ℕ, ◌+◌, ◌≤◌, Bool, true, false, cond, leb, List, ◌++◌, length, take, drop, Some, None, Option, sym, refl, ap, ◌∙◌, arith}
 use Rattle.std.specs.Vec.{with_items}
 use Rattle.std.proofs.lemmas.List.{append_assoc, length-append, length-take-le, take_at, with_items_is}
-use Rattle.std.proofs.lemmas.Bool.{leb-true, cases_Bool}
+use Rattle.std.proofs.lemmas.Bool.{leb-true}
 use Rattle.elements.specs.declared.corner.VertexIndices.{VertexIndices}
 use Rattle.elements.specs.declared.row.Row.{Row}
 use Rattle.elements.specs.Cells.{room_of}
-use Rattle.elements.specs.Rows.{held, items, room}
+use Rattle.elements.specs.Rows.{held, room}
 use Rattle.reading.specs.Face.{appended, written, Granted}
 use Rattle.book.specs.Waits.{Extended}
 

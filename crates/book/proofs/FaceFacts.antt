@@ -1,12 +1,12 @@
 -- The rule of a face.
-use Rattle.std.proofs.Common.{◌≡◌, ℕ, Bool, cond, List, [], ◌∷◌, ◌++◌, length, is_ok, Ok, Err, Option, Result, unwrap_or, sym, refl, ap, ◌∙◌, subst}
+use Rattle.std.proofs.Common.{◌≡◌, ℕ, cond, List, [], ◌∷◌, ◌++◌, is_ok, Ok, Err, Option, Result, unwrap_or, sym, refl, ap, ◌∙◌, subst}
 use Rattle.std.proofs.lemmas.List.{length-map}
 use Rattle.elements.specs.declared.attributes.Attributes.{Attributes}
 use Rattle.elements.specs.declared.corner.VertexIndices.{VertexIndices}
 use Rattle.elements.specs.declared.error.LoadError.{LoadError}
 use Rattle.elements.specs.Bits.{point_bits, pair_bits}
 use Rattle.elements.specs.Checks.{first, refusal}
-use Rattle.elements.specs.Contents.{Contents, Sources, sources}
+use Rattle.elements.specs.Contents.{Contents, sources}
 use Rattle.elements.specs.Rows.{items}
 use Rattle.elements.proofs.RowFacts.{length-items}
 use Rattle.reading.specs.declared.counts.Counts.{Counts}

@@ -1,5 +1,5 @@
 -- Each call's rule keeps what is promised, and so does every list of calls.
-use Rattle.std.proofs.Common.{◌≡◌, ℕ, ◌+◌, Bool, not, List, [], ◌∷◌, ◌++◌, length, Some, None, filter, Option, sym, refl, ap, ◌∙◌, subst, arith}
+use Rattle.std.proofs.Common.{◌≡◌, ℕ, ◌+◌, Bool, not, List, [], ◌∷◌, ◌++◌, length, Some, None, Option, sym, refl, ap, ◌∙◌, subst, arith}
 use Rattle.std.proofs.lemmas.List.{length_push, append-nil, append_assoc}
 use Rattle.std.proofs.lemmas.List.Filters.{length-filter_both}
 use Rattle.elements.specs.declared.corner.VertexIndices.{VertexIndices}
@@ -9,19 +9,18 @@ use Rattle.elements.specs.Bits.{triple_bits, double_bits}
 use Rattle.elements.specs.Checks.{first}
 use Rattle.elements.specs.Contents.{Contents, Sources}
 use Rattle.mesh.specs.Unfold.{wanted, skips, events, corners_of}
-use Rattle.mesh.specs.Surface.{Surface, Rooms, Capacities}
+use Rattle.mesh.specs.Surface.{Rooms, Capacities}
 use Rattle.mesh.specs.Promises.{MeshPromise, ArityPromise, colourless}
 use Rattle.mesh.specs.Rules.{verdict, finished}
 use Rattle.mesh.proofs.PromiseMeshes.{colourless_promise}
 use Rattle.mesh.proofs.PromiseTold.{promises}
 use Rattle.book.specs.declared.calls.Answer.{Answer}
-use Rattle.book.specs.declared.calls.Answer.TheVariants.{Done, Exported, Refused}
 use Rattle.book.specs.declared.calls.Call.{Call}
 use Rattle.book.specs.Obeyed.{Untouched}
 use Rattle.book.specs.Asked.{request}
 use Rattle.book.specs.Requests.{Request, add_position, add_colour, add_texture, add_normal, add_face, write_mesh, BookRooms}
-use Rattle.book.specs.Rules.{checks, corners_read, granted, Settled, Follows, Left, cleared, exported, written_faces, skipped_faces, Exports, Does}
-use Rattle.book.specs.History.{Happening, Past, blank, more, Reaches, Log, told_sources, face_told, noted, logged, log, Agrees, ExportKept, KeptExport, Plain, Kept, Throughout, Promised, History}
+use Rattle.book.specs.Rules.{checks, corners_read, granted, Settled, Left, exported, written_faces, skipped_faces, Exports, Does}
+use Rattle.book.specs.History.{blank, more, Log, told_sources, face_told, noted, logged, log, Agrees, ExportKept, KeptExport, Plain, Kept, Promised, History}
 
 not-not : (b : Bool) → b ≡ not (not b)
 not-not b = grind arith

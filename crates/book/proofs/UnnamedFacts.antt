@@ -1,5 +1,5 @@
 -- Laws of the positions that no waiting corner names: how many they are, and that the numbers which are no key of a table list them.
-use Rattle.std.proofs.Common.{◌≡◌, ℕ, zero, suc, ◌+◌, ◌-◌, ◌<◌, ◌≤◌, Bool, true, false, cond, not, ◌&&◌, ◌||◌, T, eqb, ltb, leb, ◌⊎◌, List, [], ◌∷◌, ◌++◌, map, length, get_or, take, drop, replicate, is_some, is_ok, Some, None, Ok, Err, filter, Option, Result, sym, refl, ap, ◌∙◌, subst, inl, inr, ⊎_elim, add-one, arith}
+use Rattle.std.proofs.Common.{◌≡◌, ℕ, zero, suc, ◌+◌, ◌-◌, ◌<◌, ◌≤◌, Bool, true, false, cond, not, ◌&&◌, ◌||◌, T, eqb, ltb, leb, List, [], ◌∷◌, ◌++◌, map, length, get_or, take, drop, replicate, is_some, is_ok, Some, None, Ok, Err, filter, Option, Result, sym, refl, ap, ◌∙◌, subst, ⊎_elim, add-one, arith}
 use Rattle.std.specs.List.{range_with_len, ContainsAt as Has, flat_map}
 use Rattle.std.proofs.lemmas.Bool.{both_ways, cases_Bool, cases_eq, cases_lt, cases_order, cond-true, cond-false, not-true, not_from_true, not_from_false, ltb-true, ltb-false, lt-ltb, le-ltb, leb-true, leb-false, eqb-true, ne_eqb, and_parts}
 use Rattle.std.proofs.lemmas.List.{append-nil, map-id, map-append, map_push, length-append, length_push, length-map, length-replicate, get_or-map, get_or_push, get_or_append_left, take-append-drop, drop-drop, drop_all, drop_at, drop-set-lt}
@@ -26,7 +26,7 @@ use Rattle.tables.specs.Tables.{Found, Placed, Refused, Entering}
 use Rattle.tables.proofs.TableFacts.{placed_more, refused_over}
 use Rattle.book.specs.declared.book.Book.{Book}
 use Rattle.book.specs.Held.{contained}
-use Rattle.book.specs.Unnamed.{name_of, names, named_among, others, position_count, waiting_corners, named_count, Unnamed, Unnames, unnamed_checks, Lists}
+use Rattle.book.specs.Unnamed.{name_of, names, named_among, others, position_count, waiting_corners, named_count, Unnames, unnamed_checks, Lists}
 
 -- ---- the numbers below n that pass a test
 

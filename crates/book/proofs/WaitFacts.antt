@@ -1,6 +1,6 @@
 -- One face more among those that wait.
-use Rattle.std.proofs.Common.{◌≡◌, ℕ, ◌+◌, ◌<◌, ◌≤◌, Bool, true, false, cond, not, ◌||◌, T, ltb, leb, List, [], ◌∷◌, ◌++◌, map, length, take, set, is_some, Some, None, Option, unwrap_or, sym, refl, ap, ◌∙◌, subst, ⊎_elim, arith}
-use Rattle.std.proofs.lemmas.Bool.{leb-true, leb-false, le-leb, lt-leb, lt-ltb, le-ltb, cases_Bool}
+use Rattle.std.proofs.Common.{◌≡◌, ℕ, ◌+◌, ◌<◌, ◌≤◌, Bool, true, false, cond, not, ◌||◌, T, ltb, leb, List, [], ◌∷◌, ◌++◌, map, length, set, is_some, Some, None, Option, unwrap_or, sym, refl, ap, ◌∙◌, subst, ⊎_elim, arith}
+use Rattle.std.proofs.lemmas.Bool.{leb-false, le-leb, lt-leb, lt-ltb, le-ltb, cases_Bool}
 use Rattle.elements.specs.declared.corner.VertexIndices.{VertexIndices}
 use Rattle.elements.specs.declared.corner.Face.{Face}
 use Rattle.elements.specs.declared.error.LoadError.{LoadError}
@@ -18,7 +18,6 @@ use Rattle.reading.specs.Face.{face, appended}
 use Rattle.reading.proofs.AsciiLaws.{only_ascii}
 use Rattle.book.specs.Rules.{all_corners, wait_checks}
 use Rattle.book.specs.Waits.{Extended}
-use Rattle.book.proofs.CornerFacts.{fitted}
 
 -- the checks of a face for which there is no cell
 abbrev full-checks : Option (List VertexIndices) → List ℕ → List (Bool × LoadError)

@@ -5,7 +5,6 @@
 --   export_answer    the number that Export answers, 0 where it is granted; every list and table has 256 places
 --   Worked           the cases, all together
 use Rattle.std.specs.Prelude.{◌≡◌, ℕ, ◌-◌, ◌^◌, true, false, List, [], ◌∷◌, Some, None, codes, Option}
-use Rattle.elements.specs.declared.corner.VertexIndices.{VertexIndices}
 use Rattle.elements.specs.declared.options.LoadOptions.{LoadOptions}
 use Rattle.elements.specs.declared.error.LoadError.{LoadError}
 use Rattle.elements.specs.Checks.{first}

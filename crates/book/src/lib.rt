@@ -1,3 +1,5 @@
+#![tactic(auto)]
+
 pub mod attribute;
 pub mod book;
 pub mod calls;

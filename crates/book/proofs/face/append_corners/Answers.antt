@@ -1,10 +1,10 @@
-use Rattle.std.proofs.Common.{◌≡◌, ℕ, length, Some, None, refl, arith}
+use Rattle.std.proofs.Common.{◌≡◌, ℕ, Some, None, refl, arith}
 use Rattle.reading.specs.Face.{face}
 use Rattle.book.proofs.CornerFacts.{same-room, kept_fits, kept-cells, answer_is, more_fits, extended, never}
 use Rattle.book.proofs.face.append_corners.Goals as goal
 
 pub invariant_of-row : goal.invariant_of-row
-invariant_of-row c = (kept_fits c.args.row.now c.deref_mut.result.now c.parse_face.new.cells c.deref_mut.ensures.value c.parse_face.auto.cells, tt)
+invariant_of-row c = record { fits = kept_fits c.args.row.now c.deref_mut.result.now c.parse_face.new.cells c.deref_mut.ensures.value c.parse_face.auto.cells }
 
 pub returns-in_default : goal.returns-in_default
 returns-in_default c =
@@ -23,11 +23,12 @@ returns-in_default c =
     }
 
 pub invariant_of-row-2 : goal.invariant_of-row-2
-invariant_of-row-2 c = (
-  more_fits c.args.row.now c.deref_mut.result.now c.parse_face.new.cells c.deref_mut.ensures.value c.parse_face.auto.cells
-      (face c.args.counts c.args.text.now) c.in-Some.count c.in-Some.ensures.answer,
-  tt,
-)
+invariant_of-row-2 c =
+    record {
+      fits =
+          more_fits c.args.row.now c.deref_mut.result.now c.parse_face.new.cells c.deref_mut.ensures.value c.parse_face.auto.cells
+          (face c.args.counts c.args.text.now) c.in-Some.count c.in-Some.ensures.answer;
+    }
 
 pub returns : goal.returns
 returns c =

@@ -1,6 +1,5 @@
-use Rattle.std.proofs.Common.{◌≡◌, ℕ, ◌+◌, ◌<◌, ◌≤◌, true, List, [], ◌∷◌, ◌++◌, length, set, unwrap_or, sym, refl, ap, ◌∙◌, subst, arith}
+use Rattle.std.proofs.Common.{◌≡◌, ◌<◌, [], ◌∷◌, ◌++◌, length, set, unwrap_or, sym, refl, ap, ◌∙◌, arith}
 use Rattle.std.proofs.lemmas.Bool.{lt-ltb}
-use Rattle.elements.specs.declared.corner.VertexIndices.{VertexIndices}
 use Rattle.elements.specs.Contents.{faces_of}
 use Rattle.elements.specs.Rows.{held, room}
 use Rattle.reading.specs.Face.{face, written}
@@ -35,7 +34,7 @@ invariant_of-waiting-2 c =
     let f = fitted (face c.args.counts c.args.text.now) w.corners.count (room w.corners) c.in-Some.count h.answer in
     let l : w.faces.count < room w.faces = omega arith in
     let pushed = c.push.ensures.granted (c.push.ensures.tells ∙ lt-ltb _ _ l) in
-    (tiles-added w c.append_corners.new.row c.push.new.self f.xs c.in-Some.count f.count (h.granted f.xs f.is f.fits) pushed, tt)
+    record { tiled = tiles-added w c.append_corners.new.row c.push.new.self f.xs c.in-Some.count f.count (h.granted f.xs f.is f.fits) pushed }
 
 pub returns : goal.returns
 returns c =

@@ -1,4 +1,4 @@
-use Rattle.std.proofs.Common.{◌≡◌, ℕ, [], unwrap_or, refl, ap, subst}
+use Rattle.std.proofs.Common.{ℕ, [], unwrap_or, refl, subst}
 use Rattle.elements.specs.Checks.{refusal}
 use Rattle.elements.specs.Rows.{room}
 use Rattle.reading.specs.declared.counts.Counts.{Counts}

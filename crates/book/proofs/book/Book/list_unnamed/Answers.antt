@@ -1,4 +1,4 @@
-use Rattle.std.proofs.Common.{◌≡◌, true, false, take, sym, refl, ap, ◌∙◌, subst}
+use Rattle.std.proofs.Common.{false, take, refl}
 use Rattle.std.proofs.lemmas.Bool.{both_ways}
 use Rattle.elements.specs.Rows.{items, room}
 use Rattle.book.specs.Held.{contained}
