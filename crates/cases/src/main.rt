@@ -1,4 +1,6 @@
 // Runs the worked cases through the library and prints what came of each.
+#![tactic(auto)]
+
 use book::book::Book;
 use book::calls::{Answer, Call};
 use book::obey::obey;

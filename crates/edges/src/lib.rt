@@ -1,3 +1,5 @@
+#![tactic(auto)]
+
 // Tests at the edges of what the calls grant: full lists, one cell left, odd numbers, short tapes.
 #[cfg(test)]
 mod lists;

@@ -1,5 +1,5 @@
 -- One record more of a tape.
-use Rattle.std.proofs.Common.{◌≡◌, ℕ, ◌+◌, ◌*◌, ◌/◌, ◌<◌, ◌≤◌, false, cond, ltb, ◌⊎◌, List, [], ◌∷◌, ◌++◌, map, length, get_or, take, drop, set, sym, refl, ap, ◌∙◌, subst, inl, inr, arith}
+use Rattle.std.proofs.Common.{◌≡◌, ℕ, ◌+◌, ◌/◌, ◌<◌, ◌≤◌, cond, List, [], ◌∷◌, ◌++◌, length, take, drop, set, sym, refl, ap, ◌∙◌, subst, inl, inr, arith}
 use Rattle.std.proofs.lemmas.List.{append-nil, append_assoc, length_push, length-map, take_more_set, length-take-le, drop-set-lt, drop-drop, nil_from_length}
 use Rattle.std.proofs.lemmas.Bool.{le-ltb}
 use Rattle.elements.specs.declared.error.LoadError.TheVariants.{BadRecord}
@@ -16,13 +16,13 @@ use Rattle.book.specs.Held.{left}
 use Rattle.book.specs.Obeyed.{Untouched}
 use Rattle.book.specs.Requests.{Request, add_position, add_colour, add_texture, add_normal, add_face, write_mesh, BookRooms}
 use Rattle.book.specs.Rules.{Does, Left}
-use Rattle.book.specs.History.{Past, more, Reaches, Promised, asks, answers_of, meshes_of}
+use Rattle.book.specs.History.{Past, more, Reaches, asks, answers_of, meshes_of}
 use Rattle.book.proofs.HistoryFacts.{history}
 use Rattle.records.specs.declared.record.Record.{Record}
 use Rattle.records.specs.declared.record.Record.TheVariants.{Position, Colour, Texture, Normal, Face, Export}
 use Rattle.records.specs.declared.line.Line.{Line}
 use Rattle.records.specs.Layout.{word_at, head, kind_of, size, Stands}
-use Rattle.records.specs.Playing.{heard, Asks, kind_number, told_of, line_of, bad_line, Recorded, report, Unreadable, Ended, after_request, last_left, Played}
+use Rattle.records.specs.Playing.{heard, Asks, kind_number, told_of, line_of, Recorded, report, Unreadable, Ended, after_request, last_left, Played}
 
 -- ---- the kind of a record
 

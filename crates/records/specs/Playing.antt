@@ -7,7 +7,7 @@
 --   Ended            why playing stopped: nothing was left, or what was left is no record, or no line was left to write
 --   last_left        what a mesh holds after a past: what its last export left, or what was there before
 --   Played           all of it together, after any past of the book
-use Rattle.std.specs.Prelude.{◌≡◌, ℕ, ◌<◌, ◌≤◌, ◌⊎◌, List, [], ◌∷◌, ◌++◌, length, take, drop, None}
+use Rattle.std.specs.Prelude.{◌≡◌, ℕ, ◌<◌, ◌⊎◌, List, [], ◌∷◌, ◌++◌, length, take, drop, None}
 use Rattle.elements.specs.declared.error.LoadError.TheVariants.{BadRecord}
 use Rattle.elements.specs.Contents.{Contents}
 use Rattle.mesh.specs.Surface.{Rooms, Capacities}

@@ -1,6 +1,5 @@
-use Rattle.std.proofs.Common.{◌≡◌, ◌<◌, ◌≤◌, length, take, sym, refl, ap, ◌∙◌, subst, arith, length-set}
+use Rattle.std.proofs.Common.{◌≡◌, ◌<◌, length, refl, ap, ◌∙◌, arith, length-set}
 use Rattle.mesh.specs.Lists.{rooms as mesh_rooms}
-use Rattle.mesh.specs.Surface.{Rooms, Capacities}
 use Rattle.book.specs.Held.{rooms, contained, left}
 use Rattle.book.specs.Asked.{request}
 use Rattle.book.proofs.HistoryFacts.{history}
