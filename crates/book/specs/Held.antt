@@ -5,7 +5,7 @@
 --   Awaits         a face and its corners were written where a call was granted, and nothing where it was refused
 --   left m t       what an export left in the mesh m and the tables' stock t
 --   Released       nothing waits any more where a call was granted, and all is as it was where it was refused; no cell is touched
---   with-..        a book with another list in the place of one of its own
+--   with_..        a book with another list in the place of one of its own
 use Rattle.std.specs.Prelude.{◌≡◌, ℕ, List, map, length, set, is_ok, Some, None, Ok, Err, Option, Result}
 use Rattle.elements.specs.declared.corner.VertexIndices.{VertexIndices}
 use Rattle.elements.specs.declared.error.LoadError.{LoadError}

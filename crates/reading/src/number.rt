@@ -1,6 +1,6 @@
 ghost use Rattle.std.specs.Prelude.{◌≡◌, ◌+◌, ◌^◌, ◌<◌, true, pos, neg_ℤ, IfSome};
 ghost use Rattle.std.specs.Option.{SomeIff};
-ghost use Rattle.reading.specs.Value.{value, below, signed, numeral, number, digit, digits as areDigits, reference as referTo};
+ghost use Rattle.reading.specs.Value.{value, below, signed, numeral, number, digit, digits as are_digits, reference as refer_to};
 
 use elements::corner::MISSING_INDEX;
 
@@ -24,7 +24,7 @@ fn is_numeral(bytes: &[u8]) -> bool
 
 // The number that digits write, if it is below 2^64.
 fn magnitude(digits: &[u8]) -> Option<u64>
-    requires { areDigits digits.now ≡ true }
+    requires { are_digits digits.now ≡ true }
     ensures { SomeIff result (number digits.now < 2 ^ 64) (number digits.now) }
 {
     let mut sum: u64 = 0;
@@ -86,7 +86,7 @@ pub(crate) fn part_value(bytes: &[u8]) -> Option<i64>
 
 // What a number refers to in a list of so many. A place before the first is not refused here: it wraps.
 pub(crate) fn reference(named: i64, count: usize) -> usize
-    ensures { result ≡ referTo count named }
+    ensures { result ≡ refer_to count named }
 {
     if named > 0 {
         (named - 1) as usize

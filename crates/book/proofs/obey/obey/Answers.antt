@@ -1,4 +1,4 @@
-use Rattle.std.proofs.Common.{refl}
+use Rattle.std.proofs.Common.{refl, rules}
 use Rattle.mesh.specs.Lists.{rooms as mesh_rooms}
 use Rattle.book.specs.declared.calls.Answer.TheVariants.{Exported, Refused}
 use Rattle.book.specs.Held.{rooms, contained, left}
@@ -14,12 +14,12 @@ returns-in-Position g c =
     record {
       history = history;
       cases = worked;
-      rooms = c.position.ensures.rooms;
+      rooms = search rules;
       mesh_rooms = refl;
       capacities = refl;
       untouched = untouched ms ts c.args.call _ c.in-Position.is m m refl;
       sound = λ s. s;
-      does = obeyed ms ts c.args.call _ c.in-Position.is m m (rooms c.args.book.now) (contained c.args.book.now) (contained c.position.new.self) c.answer.result _ c.answer.ensures c.position.ensures.does;
+      does = obeyed ms ts c.args.call _ c.in-Position.is m m _ _ _ c.answer.result _ c.answer.ensures (search rules);
     }
 
 pub returns-in-Colour : goal.returns-in-Colour
@@ -30,12 +30,12 @@ returns-in-Colour g c =
     record {
       history = history;
       cases = worked;
-      rooms = c.colour.ensures.rooms;
+      rooms = search rules;
       mesh_rooms = refl;
       capacities = refl;
       untouched = untouched ms ts c.args.call _ c.in-Colour.is m m refl;
       sound = λ s. s;
-      does = obeyed ms ts c.args.call _ c.in-Colour.is m m (rooms c.args.book.now) (contained c.args.book.now) (contained c.colour.new.self) c.answer-in-Colour.result _ c.answer-in-Colour.ensures c.colour.ensures.does;
+      does = obeyed ms ts c.args.call _ c.in-Colour.is m m _ _ _ c.answer-in-Colour.result _ c.answer-in-Colour.ensures (search rules);
     }
 
 pub returns-in-Texture : goal.returns-in-Texture
@@ -46,12 +46,12 @@ returns-in-Texture g c =
     record {
       history = history;
       cases = worked;
-      rooms = c.texture.ensures.rooms;
+      rooms = search rules;
       mesh_rooms = refl;
       capacities = refl;
       untouched = untouched ms ts c.args.call _ c.in-Texture.is m m refl;
       sound = λ s. s;
-      does = obeyed ms ts c.args.call _ c.in-Texture.is m m (rooms c.args.book.now) (contained c.args.book.now) (contained c.texture.new.self) c.answer-in-Texture.result _ c.answer-in-Texture.ensures c.texture.ensures.does;
+      does = obeyed ms ts c.args.call _ c.in-Texture.is m m _ _ _ c.answer-in-Texture.result _ c.answer-in-Texture.ensures (search rules);
     }
 
 pub returns-in-Normal : goal.returns-in-Normal
@@ -62,12 +62,12 @@ returns-in-Normal g c =
     record {
       history = history;
       cases = worked;
-      rooms = c.normal.ensures.rooms;
+      rooms = search rules;
       mesh_rooms = refl;
       capacities = refl;
       untouched = untouched ms ts c.args.call _ c.in-Normal.is m m refl;
       sound = λ s. s;
-      does = obeyed ms ts c.args.call _ c.in-Normal.is m m (rooms c.args.book.now) (contained c.args.book.now) (contained c.normal.new.self) c.answer-in-Normal.result _ c.answer-in-Normal.ensures c.normal.ensures.does;
+      does = obeyed ms ts c.args.call _ c.in-Normal.is m m _ _ _ c.answer-in-Normal.result _ c.answer-in-Normal.ensures (search rules);
     }
 
 pub returns-in-Face : goal.returns-in-Face
@@ -78,12 +78,12 @@ returns-in-Face g c =
     record {
       history = history;
       cases = worked;
-      rooms = c.face.ensures.rooms;
+      rooms = search rules;
       mesh_rooms = refl;
       capacities = refl;
       untouched = untouched ms ts c.args.call _ c.in-Face.is m m refl;
       sound = λ s. s;
-      does = obeyed ms ts c.args.call _ c.in-Face.is m m (rooms c.args.book.now) (contained c.args.book.now) (contained c.face.new.self) c.answer-in-Face.result _ c.answer-in-Face.ensures c.face.ensures.does;
+      does = obeyed ms ts c.args.call _ c.in-Face.is m m _ _ _ c.answer-in-Face.result _ c.answer-in-Face.ensures (search rules);
     }
 
 pub returns-in-Ok : goal.returns-in-Ok

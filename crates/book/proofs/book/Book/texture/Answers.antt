@@ -11,8 +11,8 @@ pub returns : goal.returns
 returns c =
     let b = c.args.self.now in
     let made = c.in_ok-pair.ensures.made in
-    let number = passed (nan2 c.args.u c.args.v) _ c.in_ok-pair.ensures.refused in
     let same : pair_bits c.in_ok-pair.pair ≡ double_bits c.args.u c.args.v = cc in
+    let number = passed (nan2 c.args.u c.args.v) _ c.in_ok-pair.ensures.refused in
     let with-list : List (List ℕ) → Contents = λ xs. record { sources = record { positions = (contained b).sources.positions; colours = (contained b).sources.colours; textures = xs; normals = (contained b).sources.normals }; waiting = (contained b).waiting } in
     let with-room : ℕ → BookRooms = λ n. record { positions = (rooms b).positions; colours = (rooms b).colours; textures = n; normals = (rooms b).normals; corners = (rooms b).corners; faces = (rooms b).faces } in
     record {
