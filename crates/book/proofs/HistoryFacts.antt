@@ -14,12 +14,8 @@ use Rattle.mesh.specs.Promises.{MeshPromise, ArityPromise, colourless}
 use Rattle.mesh.specs.Rules.{verdict, finished}
 use Rattle.mesh.proofs.PromiseMeshes.{colourless_promise}
 use Rattle.mesh.proofs.PromiseTold.{promises}
-use Rattle.book.specs.declared.calls.Answer.{Answer}
-use Rattle.book.specs.declared.calls.Call.{Call}
-use Rattle.book.specs.Obeyed.{Untouched}
-use Rattle.book.specs.Asked.{request}
 use Rattle.book.specs.Requests.{Request, add_position, add_colour, add_texture, add_normal, add_face, write_mesh, BookRooms}
-use Rattle.book.specs.Rules.{checks, corners_read, granted, Settled, Left, exported, written_faces, skipped_faces, Exports, Does}
+use Rattle.book.specs.Rules.{CallAnswer, checks, corners_read, granted, Settled, Left, exported, written_faces, skipped_faces, Exports, Does}
 use Rattle.book.specs.History.{blank, more, Log, told_sources, face_told, noted, logged, log, Agrees, ExportKept, KeptExport, Plain, Kept, Promised, History}
 
 not-not : (b : Bool) → b ≡ not (not b)
@@ -70,12 +66,12 @@ module _ (l : Log) (c : Contents) (h : Agrees l c) where
         conserved = omega arith;
       }
 
-  settled_agrees : (v : Option LoadError) (q : Request) (a : Answer) (d : Contents) → Settled v c (granted c q) a d → Agrees (logged l q a) d × Plain a
+  settled_agrees : (v : Option LoadError) (q : Request) (a : CallAnswer) (d : Contents) → Settled v c (granted c q) a d → Agrees (logged l q a) d × Plain a
   settled_agrees None q a d r =
-      let P : Answer → Type 0 = λ x. Agrees (logged l q x) d × Plain x in
+      let P : CallAnswer → Type 0 = λ x. Agrees (logged l q x) d × Plain x in
       subst P (sym r.0) (subst (λ x. Agrees (noted l q) x) (sym r.1) (granted-agrees q), tt)
   settled_agrees (Some e) q a d r =
-      let P : Answer → Type 0 = λ x. Agrees (logged l q x) d × Plain x in
+      let P : CallAnswer → Type 0 = λ x. Agrees (logged l q x) d × Plain x in
       subst P (sym r.0) (subst (λ x. Agrees l x) (sym r.1) h, tt)
 
   -- the mesh of an export, for what the log tells
@@ -95,21 +91,21 @@ module _ (l : Log) (c : Contents) (h : Agrees l c) where
         arities = subst (λ fs. ArityPromise o fs m) h.waiting p.arities;
       }
 
-  exports_keep : (o : LoadOptions) (material : Option ℕ) (ms : Rooms) (ts : Capacities) (v : Option LoadError) → verdict o c ms ts ≡ v → (a : Answer) (m : Left) (d : Contents)
+  exports_keep : (o : LoadOptions) (material : Option ℕ) (ms : Rooms) (ts : Capacities) (v : Option LoadError) → verdict o c ms ts ≡ v → (a : CallAnswer) (m : Left) (d : Contents)
       → Exports v o material ts c a m d → Agrees (logged l (write_mesh o material ms ts) a) d × KeptExport l o material ts a m
   exports_keep o material ms ts None e a m d r =
       let q = write_mesh o material ms ts in
-      let P : Answer → Type 0 = λ x. Agrees (logged l q x) d × KeptExport l o material ts x m in
+      let P : CallAnswer → Type 0 = λ x. Agrees (logged l q x) d × KeptExport l o material ts x m in
       subst P (sym r.0) (
         subst (λ x. Agrees (noted l q) x) (sym r.2) (granted-agrees q),
         subst (λ x. ExportKept l o material (written_faces o c.waiting) (skipped_faces o c.waiting) x) (sym r.1) (export_kept o material ms ts e),
       )
   exports_keep o material ms ts (Some x) e a m d r =
       let q = write_mesh o material ms ts in
-      let P : Answer → Type 0 = λ y. Agrees (logged l q y) d × KeptExport l o material ts y m in
+      let P : CallAnswer → Type 0 = λ y. Agrees (logged l q y) d × KeptExport l o material ts y m in
       subst P (sym r.0) (subst (λ y. Agrees l y) (sym r.2) h, r.1)
 
-  pub step : (rs : BookRooms) (q : Request) (a : Answer) (m : Left) (d : Contents) → Does rs c q a m d → Agrees (logged l q a) d × Kept l q a m
+  pub step : (rs : BookRooms) (q : Request) (a : CallAnswer) (m : Left) (d : Contents) → Does rs c q a m d → Agrees (logged l q a) d × Kept l q a m
   step rs (add_position x y z) a m d r = settled_agrees (first (checks rs c (add_position x y z))) (add_position x y z) a d r
   step rs (add_colour x y z) a m d r = settled_agrees (first (checks rs c (add_colour x y z))) (add_colour x y z) a d r
   step rs (add_texture u v) a m d r = settled_agrees (first (checks rs c (add_texture u v))) (add_texture u v) a d r
@@ -125,11 +121,3 @@ history rs (more p h) c r =
     let before = history rs p r.0 r.1 in
     let now = step (log p) r.0 before.agrees rs h.asked h.answer h.mesh c r.2 in
     record { agrees = now.0; kept = (before.kept, now.1) }
-
--- the rule of a call and its answer under other names
-module _ (ms : Rooms) (ts : Capacities) (x y : Call) (e : x ≡ y) (m n : Left) where
-  pub untouched : Untouched (request ms ts y) m n → Untouched (request ms ts x) m n
-  untouched h = subst (λ z. Untouched (request ms ts z) m n) (sym e) h
-
-  pub obeyed : (rs : BookRooms) (c d : Contents) (a b : Answer) → a ≡ b → Does rs c (request ms ts y) b n d → Does rs c (request ms ts x) a n d
-  obeyed rs c d a b f h = subst (λ z. Does rs c (request ms ts z) a n d) (sym e) (subst (λ z. Does rs c (request ms ts y) z n d) (sym f) h)

@@ -1,5 +1,4 @@
 pub mod StoreFacts
-pub mod CornerFacts
 pub mod WaitFacts
 pub mod FaceFacts
 pub mod HistoryFacts

@@ -1,7 +1,7 @@
 -- Laws of the positions that no waiting corner names: how many they are, and that the numbers which are no key of a table list them.
-use Rattle.std.proofs.Common.{◌≡◌, ℕ, zero, suc, ◌+◌, ◌-◌, ◌<◌, ◌≤◌, Bool, true, false, cond, not, ◌&&◌, ◌||◌, T, eqb, ltb, leb, List, [], ◌∷◌, ◌++◌, map, length, get_or, take, drop, replicate, is_some, is_ok, Some, None, Ok, Err, filter, Option, Result, sym, refl, ap, ◌∙◌, subst, ⊎_elim, add-one, arith}
+use Rattle.std.proofs.Common.{◌≡◌, ℕ, zero, suc, ◌+◌, ◌-◌, ◌<◌, ◌≤◌, Bool, true, false, cond, not, ◌&&◌, ◌||◌, T, eqb, nat_lt, List, [], ◌∷◌, ◌++◌, map, length, get_or, take, drop, replicate, is_some, Some, None, filter, Option, sym, refl, ap, ◌∙◌, subst, ⊎_elim, add-one, arith}
 use Rattle.std.specs.List.{range_with_len, ContainsAt as Has, flat_map}
-use Rattle.std.proofs.lemmas.Bool.{both_ways, cases_Bool, cases_eq, cases_lt, cases_order, cond-true, cond-false, not-true, not_from_true, not_from_false, ltb-true, ltb-false, lt-ltb, le-ltb, leb-true, leb-false, eqb-true, ne_eqb, and_parts}
+use Rattle.std.proofs.lemmas.Bool.{cases_Bool, cases_eq, cases_lt, cases_order, cond-true, cond-false, not-true, not_from_true, not_from_false, ltb-true, ltb-false, lt-ltb, le-ltb, eqb-true, ne_eqb, and_parts}
 use Rattle.std.proofs.lemmas.List.{append-nil, map-id, map-append, map_push, length-append, length_push, length-map, length-replicate, get_or-map, get_or_push, get_or_append_left, take-append-drop, drop-drop, drop_all, drop_at, drop-set-lt}
 use Rattle.std.proofs.lemmas.List.FromFn.{map-range_with_len_more, length-range_with_len, get_or-range_with_len}
 use Rattle.std.proofs.lemmas.List.Elements.{filter-append, filter_more}
@@ -15,18 +15,18 @@ use Rattle.elements.specs.declared.row.Row.{Row}
 use Rattle.elements.specs.declared.waiting.Waiting.{Waiting}
 use Rattle.elements.specs.Bits.{point_bits}
 use Rattle.elements.specs.Cells.{room_of, blanked}
-use Rattle.elements.specs.Checks.{refusal, first}
+use Rattle.elements.specs.Checks.{first}
 use Rattle.elements.specs.Contents.{Contents, faces_of}
 use Rattle.elements.specs.First.{alike, has, distinct, place, Apart}
 use Rattle.elements.specs.Rows.{held, items, room, Pushed}
 use Rattle.elements.specs.Tiles.{part, tiles}
 use Rattle.elements.proofs.FirstFacts.{has-at, has_left, place_of, same-has, distinct-has, distinct_apart, distinct-le, fewest}
 use Rattle.elements.proofs.RowFacts.{length-items}
-use Rattle.tables.specs.Tables.{Found, Placed, Refused, Entering}
+use Rattle.tables.specs.Tables.{Found, Placed, Refused}
 use Rattle.tables.proofs.TableFacts.{placed_more, refused_over}
 use Rattle.book.specs.declared.book.Book.{Book}
 use Rattle.book.specs.Held.{contained}
-use Rattle.book.specs.Unnamed.{name_of, names, named_among, others, position_count, waiting_corners, named_count, Unnames, unnamed_checks, Lists}
+use Rattle.book.specs.Unnamed.{name_of, names, named_among, others, position_count, waiting_corners, named_count, Unnames, unnamed_checks}
 
 -- ---- the numbers below n that pass a test
 
@@ -178,7 +178,7 @@ module _ (n : ℕ) (xs : List (List ℕ)) where
 -- ---- what corners name
 
 abbrev pub in_reach : ℕ → VertexIndices → Bool
-in_reach n c = ltb c.v n
+in_reach n c = nat_lt c.v n
 
 named-numbers : (n : ℕ) (cs : List VertexIndices) → Numbers n (map name_of (filter (in_reach n) cs))
 named-numbers n cs m t =
@@ -228,25 +228,20 @@ others_unnamed c ns e =
       every = λ i h. passing_has p n i h.0 (not_from_false (has ks (i ∷ [])) (same_names n cs i h.0 ∙ h.1));
     })
 
--- ---- a table's answer o, of which b tells that it is none
+-- ---- a table's answer o, by whether it is none
 
-module _ (m : List ℕ) (ks : List (List ℕ)) (b : Bool) where
-  pub found_none : (o : Option ℕ) → is_some o ≡ not b → b ≡ true → Found m ks o → has ks m ≡ false
-  found_none None e t h = h
-  found_none (Some i) e t h = absurd (both_ways (not b) (not_from_true b t) (sym e))
+module _ (m : List ℕ) (ks : List (List ℕ)) where
+  pub found_none : (o : Option ℕ) → is_some o ≡ false → Found m ks o → has ks m ≡ false
+  found_none None e h = h
+  found_none (Some i) e h = cc
 
-  pub found_some : (o : Option ℕ) → is_some o ≡ not b → b ≡ false → Found m ks o → has ks m ≡ true
-  found_some None e f h = absurd (both_ways (not b) (sym e) (not_from_false b f))
-  found_some (Some i) e f h = h.0
+  pub found_some : (o : Option ℕ) → is_some o ≡ true → Found m ks o → has ks m ≡ true
+  found_some None e h = cc
+  found_some (Some i) e h = h.0
 
-  module _ (cap : ℕ) (ls : List (List ℕ)) where
-    pub entered-none : (o : Option ℕ) → is_some o ≡ not b → b ≡ true → Entering cap m ks ls o → Refused cap m ks ls
-    entered-none None e t h = h
-    entered-none (Some i) e t h = absurd (both_ways (not b) (not_from_true b t) (sym e))
-
-    pub entered-some : (o : Option ℕ) → is_some o ≡ not b → b ≡ false → Entering cap m ks ls o → (i : ℕ) × Placed cap m ks ls i
-    entered-some None e f h = absurd (both_ways (not b) (sym e) (not_from_false b f))
-    entered-some (Some i) e f h = (i, h)
+-- a lone check that m is not above n, where it is
+pub over_refused : {E : Type 0} (n m : ℕ) (e : E) → n < m → first ((nat_lt n m, e) ∷ []) ≡ Some e
+over_refused n m e l = cond-true (nat_lt n m) (Some e) None (lt-ltb n m l)
 
 -- ---- the named positions enter a table, corner by corner
 
@@ -286,8 +281,8 @@ module _ (n : ℕ) (cs : List VertexIndices) (i : ℕ) (d : VertexIndices) (insi
     pub named_more : (p : ℕ) → Placed cap (name_of here) ks ls p → ls ≡ named_among n (take (i + 1) cs)
     named_more p h = placed_more cap before ks ls (name_of here) e p h ∙ ap distinct (sym reached)
 
-    pub named-over : Refused cap (name_of here) ks ls → cap < length (named_among n cs)
-    named-over h =
+    pub named_over : Refused cap (name_of here) ks ls → cap < length (named_among n cs)
+    named_over h =
         let more : length (named_among n (take (i + 1) cs)) ≡ cap + 1 =
         ap (λ xs. length (distinct xs)) reached ∙ refused_over cap before ks ls (name_of here) e h in
         let le = named-take-le n (i + 1) cs in
@@ -302,14 +297,14 @@ module _ (ks : List (List ℕ)) (i : ℕ) where
   pub others_skip : has ks (i ∷ []) ≡ true → others (i + 1) ks ≡ others i ks
   others_skip t = passing_no other_test i (not_from_true (has ks (i ∷ [])) t)
 
-  pub others-more : has ks (i ∷ []) ≡ false → others (i + 1) ks ≡ others i ks ++ i ∷ []
-  others-more f = passing_yes other_test i (not_from_false (has ks (i ∷ [])) f)
+  pub others_more : has ks (i ∷ []) ≡ false → others (i + 1) ks ≡ others i ks ++ i ∷ []
+  others_more f = passing_yes other_test i (not_from_false (has ks (i ∷ [])) f)
 
   -- a full list that lacks a number is too short for all
-  pub others-over : (n : ℕ) (r : Row ℕ) → i < n → items r ≡ others i ks → has ks (i ∷ []) ≡ false → room r ≤ r.count → room r < length (others n ks)
-  others-over n r l e f full =
+  pub others_over : (n : ℕ) (r : Row ℕ) → i < n → items r ≡ others i ks → has ks (i ∷ []) ≡ false → room r ≤ r.count → room r < length (others n ks)
+  others_over n r l e f full =
       let held-count : length (others i ks) ≡ r.count = ap length (sym e) ∙ length-items r in
-      let more = ap length (others-more f) ∙ length_push (others i ks) i in
+      let more = ap length (others_more f) ∙ length_push (others i ks) i in
       let le = length_passing_le other_test (i + 1) n (omega arith) in
       omega arith
 
@@ -371,60 +366,41 @@ positions-counted b =
     let ps = b.attributes.positions in
     sym (length-map (items ps) point_bits ∙ length-items ps)
 
--- the waiting corners as a part of their cells
-pub corners_lent : (b : Book) (xs : List VertexIndices) → xs ≡ held b.waiting.corners → take b.waiting.corners.count xs ≡ waiting_corners (contained b)
-corners_lent b xs e = ap (take b.waiting.corners.count) e ∙ corners-joined b.waiting
+-- ---- what the call answers, where cs are the book's waiting corners
 
--- ---- what the call answers, where n and cs are the book's count of positions and its waiting corners
+module _ (b : Book) (cs : List VertexIndices) (lent : cs ≡ items b.waiting.corners) (cap room : ℕ) where
+  abbrev named_here : List (List ℕ)
+  named_here = named_among b.attributes.positions.count cs
 
-module _ (c : Contents) (n : ℕ) (cs : List VertexIndices) (en : n ≡ position_count c) (ecs : cs ≡ waiting_corners c) (cap room : ℕ) where
-  named_is : named_among n cs ≡ named_among (position_count c) (waiting_corners c)
-  named_is = ap (λ k. named_among k cs) en ∙ ap (named_among (position_count c)) ecs
+  named_is : named_here ≡ named_among (position_count (contained b)) (waiting_corners (contained b))
+  named_is = ap (λ k. named_among k cs) (positions-counted b) ∙ ap (named_among (position_count (contained b))) (lent ∙ corners-joined b.waiting)
 
-  pub table_full : false ≡ leb (length (named_among n cs)) cap → Some TableFull ≡ first (unnamed_checks cap room c)
-  table_full h =
-      let over = leb-false (length (named_among n cs)) cap (sym h) in
-      let same = ap length named_is in
-      sym (cond-true (ltb cap (named_count c)) (Some TableFull) _ (lt-ltb cap (named_count c) (omega arith)))
+  -- the table's check is the first
+  pub table_full : (e : LoadError) → Some e ≡ first ((nat_lt cap (length named_here), TableFull) ∷ []) → Some e ≡ first (unnamed_checks cap room (contained b))
+  table_full e h =
+      let P : Bool → Type 0 = λ x. Some e ≡ cond x (Some TableFull) None → Some e ≡ first ((x, TableFull) ∷ (nat_lt room (position_count (contained b) - named_count (contained b)), MeshFull) ∷ []) in
+      let go : (x : Bool) → P x = λ x. elim x as P [ true ↦ λ y. y | false ↦ λ y. cc ] in
+      go (nat_lt cap (named_count (contained b))) (h ∙ ap (λ xs. cond (nat_lt cap (length xs)) (Some TableFull) None) named_is)
 
-  module _ (ks : List (List ℕ)) (holds : ks ≡ named_among n cs) (took : true ≡ leb (length (named_among n cs)) cap) where
-    fits_table : ltb cap (named_count c) ≡ false
-    fits_table =
-        let under = leb-true (length (named_among n cs)) cap (sym took) in
-        let same = ap length named_is in
-        le-ltb cap (named_count c) (omega arith)
+  left : length (others b.attributes.positions.count named_here) ≡ position_count (contained b) - named_count (contained b)
+  left = unnamed_count b.attributes.positions.count cs
+      ∙ (ap (λ k. k - length named_here) (positions-counted b) ∙ ap (λ xs. position_count (contained b) - length xs) named_is)
 
-    left : length (others n ks) ≡ position_count c - named_count c
-    left = ap (λ xs. length (others n xs)) holds ∙ (unnamed_count n cs ∙ (ap (λ k. k - length (named_among n cs)) en ∙ ap (λ xs. position_count c - length xs) named_is))
+  -- and that of the list the only other
+  pub list_told : None ≡ first ((nat_lt cap (length named_here), TableFull) ∷ [])
+      → first ((nat_lt room (length (others b.attributes.positions.count named_here)), MeshFull) ∷ []) ≡ first (unnamed_checks cap room (contained b))
+  list_told h =
+      let P : Bool → Type 0 = λ x. None ≡ cond x (Some TableFull) None → first ((nat_lt room (position_count (contained b) - named_count (contained b)), MeshFull) ∷ []) ≡ first ((x, TableFull) ∷ (nat_lt room (position_count (contained b) - named_count (contained b)), MeshFull) ∷ []) in
+      let go : (x : Bool) → P x = λ x. elim x as P [ true ↦ λ y. cc | false ↦ λ y. refl ] in
+      ap (λ k. first ((nat_lt room k, MeshFull) ∷ [])) left ∙ go (nat_lt cap (named_count (contained b))) (h ∙ ap (λ xs. cond (nat_lt cap (length xs)) (Some TableFull) None) named_is)
 
-    pub list_full : false ≡ leb (length (others n ks)) room → Some MeshFull ≡ first (unnamed_checks cap room c)
-    list_full h =
-        let over = leb-false (length (others n ks)) room (sym h) in
-        let same = left in
-        sym (cond-false (ltb cap (named_count c)) (Some TableFull) _ fits_table
-        ∙ cond-true (ltb room (position_count c - named_count c)) (Some MeshFull) None (lt-ltb room (position_count c - named_count c) (omega arith)))
+module _ (b : Book) (cs : List VertexIndices) (lent : cs ≡ items b.waiting.corners) where
+  pub listed : (ns : List ℕ) → ns ≡ others b.attributes.positions.count (named_among b.attributes.positions.count cs) → Unnames (contained b) ns
+  listed ns e = others_unnamed (contained b) ns (e ∙ (ap (others b.attributes.positions.count) (named_is b cs lent 0 0) ∙ ap (λ k. others k (named_among (position_count (contained b)) (waiting_corners (contained b)))) (positions-counted b)))
 
-    pub no_obstacle : true ≡ leb (length (others n ks)) room → None ≡ first (unnamed_checks cap room c)
-    no_obstacle h =
-        let under = leb-true (length (others n ks)) room (sym h) in
-        let same = left in
-        sym (cond-false (ltb cap (named_count c)) (Some TableFull) _ fits_table
-        ∙ cond-false (ltb room (position_count c - named_count c)) (Some MeshFull) None (le-ltb room (position_count c - named_count c) (omega arith)))
+-- what the proofs of `enter_named`, `list_others` and `list_unnamed` stand on
+pub ruleset enters = (named_over, over_refused)
 
-    pub listed : (ns : List ℕ) → ns ≡ others n ks → Unnames c ns
-    listed ns e = others_unnamed c ns (e ∙ (ap (others n) (holds ∙ named_is) ∙ ap (λ k. others k (named_among (position_count c) (waiting_corners c))) en))
+pub ruleset lists = (found_none, found_some, others_skip, others_more, others_over, past_more, over_refused)
 
--- ---- what the call leaves, where the cells old were cleared into new, the list r was written over these, and settled into s
-
-module _ {X : Type 0} (r s : Row ℕ) where
-  pub settled_lists : (a : Result X LoadError) (c : Contents) → (is_ok a ≡ true → s ≡ r) → (is_ok a ≡ false → (held s ≡ blanked (held r) 0) × (s.count ≡ 0))
-      → (is_ok a ≡ true → Unnames c (items r)) → Lists (refusal a) c (items s)
-  settled_lists (Ok x) c kept cleared is = let P : Row ℕ → Type 0 = λ l. Unnames c (items l) in subst P (sym (kept refl)) (is refl)
-  settled_lists (Err e) c kept cleared is = ap (λ k. take k (held s)) (cleared refl).1
-
-  pub settled_cells : (a : Result X LoadError) (old new : List ℕ) → (is_ok a ≡ true → s ≡ r) → (is_ok a ≡ false → (held s ≡ blanked (held r) 0) × (s.count ≡ 0))
-      → room r ≡ room_of (length old) → new ≡ blanked old 0 → drop r.count (held r) ≡ drop r.count new → drop s.count (held s) ≡ drop s.count (blanked old 0)
-  settled_cells (Ok x) old new kept cleared same e past =
-      let P : Row ℕ → Type 0 = λ l. drop l.count (held l) ≡ drop l.count (blanked old 0) in
-      subst P (sym (kept refl)) (past ∙ ap (drop r.count) e)
-  settled_cells (Err f) old new kept cleared same e past = ap (drop s.count) ((cleared refl).0 ∙ blanked_again r old new same e past)
+pub ruleset tells = (table_full, list_told)

@@ -60,13 +60,13 @@ Released (Err e) w v = v ≡ w
 
 module _ (b : Book) where
   abbrev pub with_positions : Row Point → Book
-  with_positions r = record { attributes = record { positions = r; colours = b.attributes.colours; textures = b.attributes.textures; normals = b.attributes.normals }; waiting = b.waiting }
+  with_positions r = record b { attributes = record b.attributes { positions = r } }
 
   abbrev pub with_colours : Row Point → Book
-  with_colours r = record { attributes = record { positions = b.attributes.positions; colours = r; textures = b.attributes.textures; normals = b.attributes.normals }; waiting = b.waiting }
+  with_colours r = record b { attributes = record b.attributes { colours = r } }
 
   abbrev pub with_textures : Row Pair → Book
-  with_textures r = record { attributes = record { positions = b.attributes.positions; colours = b.attributes.colours; textures = r; normals = b.attributes.normals }; waiting = b.waiting }
+  with_textures r = record b { attributes = record b.attributes { textures = r } }
 
   abbrev pub with_normals : Row Point → Book
-  with_normals r = record { attributes = record { positions = b.attributes.positions; colours = b.attributes.colours; textures = b.attributes.textures; normals = r }; waiting = b.waiting }
+  with_normals r = record b { attributes = record b.attributes { normals = r } }

@@ -6,7 +6,7 @@
 --   Agrees         book and log say the same, and no face is lost or changes its turn
 --   Kept           what is promised of one happening, given what was told before it
 --   History        every past keeps all of it
-use Rattle.std.specs.Prelude.{◌≡◌, ℕ, ◌+◌, List, [], ◌∷◌, ◌++◌, length, Option}
+use Rattle.std.specs.Prelude.{◌≡◌, ℕ, ◌+◌, List, [], ◌∷◌, ◌++◌, length, Ok, Err, Option}
 use Rattle.std.specs.Option.{unwrap_or}
 use Rattle.elements.specs.declared.corner.VertexIndices.{VertexIndices}
 use Rattle.elements.specs.declared.options.LoadOptions.{LoadOptions}
@@ -16,16 +16,15 @@ use Rattle.mesh.specs.Unfold.{events, corners_of}
 use Rattle.mesh.specs.Surface.{Capacities}
 use Rattle.mesh.specs.Promises.{MeshPromise, ArityPromise}
 use Rattle.reading.specs.Face.{face}
-use Rattle.book.specs.declared.calls.Answer.{Answer}
-use Rattle.book.specs.declared.calls.Answer.TheVariants.{Done, Exported, Refused}
+use Rattle.book.specs.declared.calls.Reply.TheVariants.{Done, Exported}
 use Rattle.book.specs.Requests.{Request, add_position, add_colour, add_texture, add_normal, add_face, write_mesh, BookRooms}
-use Rattle.book.specs.Rules.{Does, Left, cleared, written_faces, skipped_faces}
+use Rattle.book.specs.Rules.{CallAnswer, Does, Left, cleared, written_faces, skipped_faces}
 
 -- ---- what happened
 
 pub record Happening : Type 0 where
   pub asked : Request
-  pub answer : Answer
+  pub answer : CallAnswer
   pub mesh : Left
 
 pub data Past : Type 0 where
@@ -64,8 +63,7 @@ face_told l text =
 
 -- the log with other elements
 abbrev pub with_elements : Log → List (List ℕ) → List (List ℕ) → List (List ℕ) → Log
-with_elements l ps ts ns =
-    record { positions = ps; textures = ts; normals = ns; waiting = l.waiting; gone = l.gone; all = l.all; granted = l.granted; written = l.written; skipped = l.skipped }
+with_elements l ps ts ns = record l { positions = ps; textures = ts; normals = ns }
 
 -- a granted position, texture or normal goes last in its list, and so does the face that a granted text means; a colour changes
 -- nothing; a granted export takes all waiting faces
@@ -75,35 +73,23 @@ noted l (add_colour x y z) = l
 noted l (add_texture u v) = with_elements l l.positions (l.textures ++ double_bits u v ∷ []) l.normals
 noted l (add_normal x y z) = with_elements l l.positions l.textures (l.normals ++ triple_bits x y z ∷ [])
 noted l (add_face text) =
-    record {
-      positions = l.positions;
-      textures = l.textures;
-      normals = l.normals;
+    record l {
       waiting = l.waiting ++ face_told l text ∷ [];
-      gone = l.gone;
       all = l.all ++ face_told l text ∷ [];
       granted = l.granted + 1;
-      written = l.written;
-      skipped = l.skipped;
     }
 noted l (write_mesh o material ms ts) =
-    record {
-      positions = l.positions;
-      textures = l.textures;
-      normals = l.normals;
+    record l {
       waiting = [];
       gone = l.gone ++ l.waiting;
-      all = l.all;
-      granted = l.granted;
       written = l.written + written_faces o l.waiting;
       skipped = l.skipped + skipped_faces o l.waiting;
     }
 
 -- a refused call changes nothing
-abbrev pub logged : Log → Request → Answer → Log
-logged l q Done = noted l q
-logged l q (Exported w s) = noted l q
-logged l q (Refused e) = l
+abbrev pub logged : Log → Request → CallAnswer → Log
+logged l q (Ok r) = noted l q
+logged l q (Err e) = l
 
 abbrev pub log : Past → Log
 log blank = empty_log
@@ -130,18 +116,18 @@ pub record ExportKept (l : Log) (o : LoadOptions) (material : Option ℕ) (w s :
   pub mesh : MeshPromise o (told_sources l) (corners_of (events o l.waiting)) m.surface
   pub arities : ArityPromise o l.waiting m.surface
 
-abbrev pub KeptExport : Log → LoadOptions → Option ℕ → Capacities → Answer → Left → Type 0
-KeptExport l o material ts Done m = ⊥
-KeptExport l o material ts (Exported w s) m = ExportKept l o material w s m
-KeptExport l o material ts (Refused e) m = m ≡ cleared ts
+abbrev pub KeptExport : Log → LoadOptions → Option ℕ → Capacities → CallAnswer → Left → Type 0
+KeptExport l o material ts (Ok Done) m = ⊥
+KeptExport l o material ts (Ok (Exported w s)) m = ExportKept l o material w s m
+KeptExport l o material ts (Err e) m = m ≡ cleared ts
 
 -- only an export answers with counts of faces
-abbrev pub Plain : Answer → Type 0
-Plain Done = Unit {0}
-Plain (Exported w s) = ⊥
-Plain (Refused e) = Unit {0}
+abbrev pub Plain : CallAnswer → Type 0
+Plain (Ok Done) = Unit {0}
+Plain (Ok (Exported w s)) = ⊥
+Plain (Err e) = Unit {0}
 
-abbrev pub Kept : Log → Request → Answer → Left → Type 0
+abbrev pub Kept : Log → Request → CallAnswer → Left → Type 0
 Kept l (add_position x y z) a m = Plain a
 Kept l (add_colour x y z) a m = Plain a
 Kept l (add_texture u v) a m = Plain a
@@ -150,7 +136,7 @@ Kept l (add_face text) a m = Plain a
 Kept l (write_mesh o material ms ts) a m = KeptExport l o material ts a m
 
 -- of every happening, given what was told before it
-abbrev pub Throughout : (Log → Request → Answer → Left → Type 0) → Past → Type 0
+abbrev pub Throughout : (Log → Request → CallAnswer → Left → Type 0) → Past → Type 0
 Throughout P blank = Unit {0}
 Throughout P (more p h) = Throughout P p × P (log p) h.asked h.answer h.mesh
 
@@ -168,7 +154,7 @@ abbrev pub asks : Past → List Request
 asks blank = []
 asks (more p h) = asks p ++ h.asked ∷ []
 
-abbrev pub answers_of : Past → List Answer
+abbrev pub answers_of : Past → List CallAnswer
 answers_of blank = []
 answers_of (more p h) = answers_of p ++ h.answer ∷ []
 

@@ -5,6 +5,7 @@
 --   Left              what an export left in its mesh and its tables
 --   Exports           the same of an export
 --   Does rs c q a m d q is answered a, it left m if it is an export, and the book contains d then
+--   CallAnswer        what a call answers
 --   told r            what a call answered
 use Rattle.std.specs.Prelude.{◌≡◌, ℕ, ◌+◌, Bool, not, ◌||◌, List, [], ◌∷◌, ◌++◌, length, is_some, Some, None, Ok, Err, filter, Option, Result, is_nan, nat_le, nat_lt, Float}
 use Rattle.std.specs.Option.{unwrap_or}
@@ -24,9 +25,13 @@ use Rattle.mesh.specs.Rules.{export_checks, verdict, finished}
 use Rattle.reading.specs.declared.counts.Counts.{Counts}
 use Rattle.reading.specs.Ascii.{ascii}
 use Rattle.reading.specs.Face.{face}
-use Rattle.book.specs.declared.calls.Answer.{Answer}
-use Rattle.book.specs.declared.calls.Answer.TheVariants.{Done, Exported, Refused}
+use Rattle.book.specs.declared.calls.Reply.{Reply}
+use Rattle.book.specs.declared.calls.Reply.TheVariants.{Done, Exported}
 use Rattle.book.specs.Requests.{Request, add_position, add_colour, add_texture, add_normal, add_face, write_mesh, BookRooms}
+
+-- an `Answer`, since antt has no name for an alias
+abbrev pub CallAnswer : Type 0
+CallAnswer = Result Reply LoadError
 
 -- one of the numbers is none
 abbrev pub nan3 : Float → Float → Float → Bool
@@ -70,34 +75,34 @@ checks rs c (add_face text) = wait_checks rs.corners rs.faces c.waiting (face (c
 
 -- other sources, the same faces
 abbrev pub with_sources : Contents → Sources → Contents
-with_sources c s = record { sources = s; waiting = c.waiting }
+with_sources c s = record c { sources = s }
 
 abbrev pub more_positions : Sources → List ℕ → Sources
-more_positions s p = record { positions = s.positions ++ p ∷ []; colours = s.colours; textures = s.textures; normals = s.normals }
+more_positions s p = record s { positions = s.positions ++ p ∷ [] }
 
 abbrev pub more_colours : Sources → List ℕ → Sources
-more_colours s p = record { positions = s.positions; colours = s.colours ++ p ∷ []; textures = s.textures; normals = s.normals }
+more_colours s p = record s { colours = s.colours ++ p ∷ [] }
 
 abbrev pub more_textures : Sources → List ℕ → Sources
-more_textures s p = record { positions = s.positions; colours = s.colours; textures = s.textures ++ p ∷ []; normals = s.normals }
+more_textures s p = record s { textures = s.textures ++ p ∷ [] }
 
 abbrev pub more_normals : Sources → List ℕ → Sources
-more_normals s p = record { positions = s.positions; colours = s.colours; textures = s.textures; normals = s.normals ++ p ∷ [] }
+more_normals s p = record s { normals = s.normals ++ p ∷ [] }
 
 abbrev pub granted : Contents → Request → Contents
 granted c (add_position x y z) = with_sources c (more_positions c.sources (triple_bits x y z))
 granted c (add_colour x y z) = with_sources c (more_colours c.sources (triple_bits x y z))
 granted c (add_texture u v) = with_sources c (more_textures c.sources (double_bits u v))
 granted c (add_normal x y z) = with_sources c (more_normals c.sources (triple_bits x y z))
-granted c (write_mesh o material ms ts) = record { sources = c.sources; waiting = [] }
-granted c (add_face text) = record { sources = c.sources; waiting = c.waiting ++ corners_read c.sources text ∷ [] }
+granted c (write_mesh o material ms ts) = record c { waiting = [] }
+granted c (add_face text) = record c { waiting = c.waiting ++ corners_read c.sources text ∷ [] }
 
 -- a refused call leaves what it found
-abbrev pub Settled : Option LoadError → Contents → Contents → Answer → Contents → Type 0
-Settled None before after a d = (a ≡ Done) × (d ≡ after)
-Settled (Some e) before after a d = (a ≡ Refused e) × (d ≡ before)
+abbrev pub Settled : Option LoadError → Contents → Contents → CallAnswer → Contents → Type 0
+Settled None before after a d = (a ≡ Ok Done) × (d ≡ after)
+Settled (Some e) before after a d = (a ≡ Err e) × (d ≡ before)
 
-abbrev pub Follows : BookRooms → Contents → Request → Answer → Contents → Type 0
+abbrev pub Follows : BookRooms → Contents → Request → CallAnswer → Contents → Type 0
 Follows rs c q a d = Settled (first (checks rs c q)) c (granted c q) a d
 
 pub record Left : Type 0 where
@@ -128,14 +133,14 @@ abbrev pub skipped_faces : LoadOptions → List (List VertexIndices) → ℕ
 skipped_faces o fs = length (filter (skips o) fs)
 
 -- a granted export takes all waiting faces; a refused one leaves the book as it was and the mesh cleared
-abbrev pub Exports : Option LoadError → LoadOptions → Option ℕ → Capacities → Contents → Answer → Left → Contents → Type 0
+abbrev pub Exports : Option LoadError → LoadOptions → Option ℕ → Capacities → Contents → CallAnswer → Left → Contents → Type 0
 Exports None o material ts c a m d =
-    (a ≡ Exported (written_faces o c.waiting) (skipped_faces o c.waiting))
+    (a ≡ Ok (Exported (written_faces o c.waiting) (skipped_faces o c.waiting)))
     × (m ≡ exported o material ts c)
-    × (d ≡ record { sources = c.sources; waiting = [] })
-Exports (Some e) o material ts c a m d = (a ≡ Refused e) × (m ≡ cleared ts) × (d ≡ c)
+    × (d ≡ record c { waiting = [] })
+Exports (Some e) o material ts c a m d = (a ≡ Err e) × (m ≡ cleared ts) × (d ≡ c)
 
-abbrev pub Does : BookRooms → Contents → Request → Answer → Left → Contents → Type 0
+abbrev pub Does : BookRooms → Contents → Request → CallAnswer → Left → Contents → Type 0
 Does rs c (add_position x y z) a m d = Follows rs c (add_position x y z) a d
 Does rs c (add_colour x y z) a m d = Follows rs c (add_colour x y z) a d
 Does rs c (add_texture u v) a m d = Follows rs c (add_texture u v) a d
@@ -143,10 +148,10 @@ Does rs c (add_normal x y z) a m d = Follows rs c (add_normal x y z) a d
 Does rs c (add_face text) a m d = Follows rs c (add_face text) a d
 Does rs c (write_mesh o material ms ts) a m d = Exports (verdict o c ms ts) o material ts c a m d
 
-abbrev pub told : {X : Type 0} → Result X LoadError → Answer
-told (Ok x) = Done
-told (Err e) = Refused e
+abbrev pub told : {X : Type 0} → Result X LoadError → CallAnswer
+told (Ok x) = Ok Done
+told (Err e) = Err e
 
-abbrev pub told_export : Result (ℕ × ℕ) LoadError → Answer
-told_export (Ok n) = Exported n.0 n.1
-told_export (Err e) = Refused e
+abbrev pub told_export : Result (ℕ × ℕ) LoadError → CallAnswer
+told_export (Ok n) = Ok (Exported n.0 n.1)
+told_export (Err e) = Err e

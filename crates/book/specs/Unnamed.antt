@@ -9,7 +9,7 @@
 --   Unnames c ns           ns are the numbers of all such positions, each once, in any order
 --   unnamed_checks k n c   what stands in the way of listing them, with a table of capacity k and a list with room for n, in order
 --   Lists e c ns           the list holds ns then, where e is the refusal or none
-use Rattle.std.specs.Prelude.{◌≡◌, ℕ, ◌-◌, ◌<◌, Bool, false, not, ltb, List, [], ◌∷◌, map, length, Some, None, filter, Option, nat_lt, slice_index}
+use Rattle.std.specs.Prelude.{◌≡◌, ℕ, ◌-◌, ◌<◌, Bool, false, not, List, [], ◌∷◌, map, length, Some, None, filter, Option, nat_lt, slice_index}
 use Rattle.std.specs.List.{range_with_len, ContainsAt as Has, flat_map}
 use Rattle.elements.specs.declared.corner.VertexIndices.{VertexIndices}
 use Rattle.elements.specs.declared.error.LoadError.{LoadError}
@@ -25,7 +25,7 @@ abbrev pub names : List VertexIndices → ℕ → Bool
 names cs i = has (map name_of cs) (i ∷ [])
 
 abbrev pub named_among : ℕ → List VertexIndices → List (List ℕ)
-named_among n cs = distinct (map name_of (filter (λ c. ltb c.v n) cs))
+named_among n cs = distinct (map name_of (filter (λ c. nat_lt c.v n) cs))
 
 abbrev pub others : ℕ → List (List ℕ) → List ℕ
 others n ks = filter (λ i. not (has ks (i ∷ []))) (range_with_len 0 n)

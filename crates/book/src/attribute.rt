@@ -1,9 +1,12 @@
-ghost use Rattle.std.specs.Prelude.{◌≡◌, [], ◌∷◌, MatchResult, nat_le};
+#![tactic(auto, using(crate::proofs::StoreFacts::map_added))]
+
+ghost use Rattle.std.specs.Prelude.{◌≡◌, [], ◌∷◌, MatchResult, nat_le, is_ok};
 ghost use Rattle.elements.specs.declared.error.LoadError.TheVariants.{BookFull};
 ghost use Rattle.elements.specs.Bits.{point_bits, pair_bits, triple_bits, double_bits};
+ghost use Rattle.elements.specs.Cells.{added};
 ghost use Rattle.elements.specs.Checks.{refusal, first};
 ghost use Rattle.elements.specs.Contents.{nothing};
-ghost use Rattle.elements.specs.Rows.{room, Pushed};
+ghost use Rattle.elements.specs.Rows.{held, room, Pushed};
 ghost use Rattle.book.specs.Held.{rooms as rooms_of, contained, Stores, with_positions, with_colours, with_textures, with_normals};
 ghost use Rattle.book.specs.Requests.{add_position, add_colour, add_texture, add_normal};
 ghost use Rattle.book.specs.Rules.{Follows, told};
@@ -27,46 +30,21 @@ impl Book {
         ensures corners { result.waiting.corners.cells ≡ cells.corners }
         ensures faces { result.waiting.faces.cells ≡ cells.faces }
     {
-        let Cells {
-            positions,
-            colours,
-            textures,
-            normals,
-            corners,
-            faces,
-        } = cells;
         Book {
             attributes: Attributes {
-                positions: Row {
-                    cells: positions,
-                    count: 0,
-                },
-                colours: Row {
-                    cells: colours,
-                    count: 0,
-                },
-                textures: Row {
-                    cells: textures,
-                    count: 0,
-                },
-                normals: Row {
-                    cells: normals,
-                    count: 0,
-                },
+                positions: Row::new(cells.positions),
+                colours: Row::new(cells.colours),
+                textures: Row::new(cells.textures),
+                normals: Row::new(cells.normals),
             },
             waiting: Waiting {
-                corners: Row {
-                    cells: corners,
-                    count: 0,
-                },
-                faces: Row {
-                    cells: faces,
-                    count: 0,
-                },
+                corners: Row::new(cells.corners),
+                faces: Row::new(cells.faces),
             },
         }
     }
 
+    // kept: a method for each kind of element, since each has its own list and its own request in the contract
     // One position more.
     pub fn position(&mut self, x: f32, y: f32, z: f32) -> Result<(), LoadError>
         ensures rooms { rooms_of self.new ≡ rooms_of self.old }
@@ -74,8 +52,7 @@ impl Book {
         ensures cells { Stores point_bits result self.old.attributes.positions self.new.attributes.positions (triple_bits x y z) }
         ensures others { self.new ≡ with_positions self.old self.new.attributes.positions }
     {
-        let point = Point::new(x, y, z)?;
-        store(&mut self.attributes.positions, point)
+        store(&mut self.attributes.positions, Point::new(x, y, z)?)
     }
 
     // One colour more: it belongs to the position of the same number.
@@ -85,8 +62,7 @@ impl Book {
         ensures cells { Stores point_bits result self.old.attributes.colours self.new.attributes.colours (triple_bits x y z) }
         ensures others { self.new ≡ with_colours self.old self.new.attributes.colours }
     {
-        let point = Point::new(x, y, z)?;
-        store(&mut self.attributes.colours, point)
+        store(&mut self.attributes.colours, Point::new(x, y, z)?)
     }
 
     // One texture more.
@@ -96,8 +72,7 @@ impl Book {
         ensures cells { Stores pair_bits result self.old.attributes.textures self.new.attributes.textures (double_bits u v) }
         ensures others { self.new ≡ with_textures self.old self.new.attributes.textures }
     {
-        let pair = Pair::new(u, v)?;
-        store(&mut self.attributes.textures, pair)
+        store(&mut self.attributes.textures, Pair::new(u, v)?)
     }
 
     // One normal more.
@@ -107,20 +82,16 @@ impl Book {
         ensures cells { Stores point_bits result self.old.attributes.normals self.new.attributes.normals (triple_bits x y z) }
         ensures others { self.new ≡ with_normals self.old self.new.attributes.normals }
     {
-        let point = Point::new(x, y, z)?;
-        store(&mut self.attributes.normals, point)
+        store(&mut self.attributes.normals, Point::new(x, y, z)?)
     }
 }
 
 // One element more in a list, if a cell is left for it.
 fn store<T: Copy>(row: &mut Row<T>, item: T) -> Result<(), LoadError>
     ensures refused { refusal result ≡ first ((nat_le (room row.old) row.old.count, BookFull) ∷ []) }
+    ensures cells { held row.new ≡ added (is_ok result) (held row.old) row.old.count item }
     ensures stored { MatchResult result (λ _. Pushed row.old row.new item) (λ _. row.new ≡ row.old) }
     ensures room { room row.new ≡ room row.old }
 {
-    if row.push(item) {
-        Ok(())
-    } else {
-        Err(LoadError::BookFull)
-    }
+    row.push(item).map_err(|_| LoadError::BookFull)
 }

@@ -2,7 +2,7 @@ use elements::error::LoadError;
 use elements::options::LoadOptions;
 
 // A call on a book, with its arguments.
-#[derive(Clone, Copy)]
+#[derive(Clone, Copy, PartialEq, Debug)]
 pub enum Call<'a> {
     Position(f32, f32, f32),
     Colour(f32, f32, f32),
@@ -12,11 +12,13 @@ pub enum Call<'a> {
     Export(LoadOptions, Option<usize>),
 }
 
-// What a call answered.
-#[derive(Clone, Copy)]
-pub enum Answer {
+// What a granted call answers.
+#[derive(Clone, Copy, PartialEq, Eq, Debug)]
+pub enum Reply {
     Done,
     // an export: how many faces it wrote, and how many it skipped
     Exported(usize, usize),
-    Refused(LoadError),
 }
+
+// What a call answers.
+pub type Answer = Result<Reply, LoadError>;

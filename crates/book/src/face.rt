@@ -23,6 +23,7 @@ use reading::face::{count_corners, is_ascii, parse_face};
 
 impl Book {
     // One face more, from its text. References count from what the book holds now.
+    #[tactic(auto, using(crate::proofs::FaceFacts::counts_are))]
     pub fn face(&mut self, text: &[u8]) -> Result<(), LoadError>
         ensures rooms { rooms_of self.new ≡ rooms_of self.old }
         ensures does { Follows (rooms_of self.old) (contained self.old) (add_face text.now) (told result) (contained self.new) }
@@ -39,6 +40,7 @@ impl Book {
 }
 
 // One face more among those that wait.
+#[tactic(auto, using(crate::proofs::WaitFacts::waits))]
 fn wait(waiting: &mut Waiting, text: &[u8], counts: Counts) -> Result<(), LoadError>
     ensures refused { refusal result ≡ first (wait_checks (room waiting.old.corners) (room waiting.old.faces) (faces_of waiting.old) (face_of counts text.now) text.now) }
     ensures faces { faces_of waiting.new ≡ (if is_ok result then faces_of waiting.old ++ unwrap_or (face_of counts text.now) [] ∷ [] else faces_of waiting.old) }
@@ -50,10 +52,8 @@ fn wait(waiting: &mut Waiting, text: &[u8], counts: Counts) -> Result<(), LoadEr
         return Err(refused(text));
     }
     let start = waiting.corners.count;
-    let Some(count) = append_corners(&mut waiting.corners, text, counts) else {
-        return Err(refused(text));
-    };
-    waiting.faces.push(Face { start, count });
+    let count = append_corners(&mut waiting.corners, text, counts).ok_or_else(|| refused(text))?;
+    waiting.faces.push(Face { start, count }).unwrap();
     Ok(())
 }
 
@@ -76,9 +76,7 @@ fn append_corners(row: &mut Row<VertexIndices>, text: &[u8], counts: Counts) -> 
     ensures room { room row.new ≡ room row.old }
 {
     let start = row.count;
-    let Some(count) = parse_face(text, counts, &mut row.cells, start) else {
-        return None;
-    };
+    let count = parse_face(text, counts, &mut row.cells, start)?;
     row.count = start + count;
     Some(count)
 }

@@ -5,15 +5,16 @@ ghost use Rattle.book.specs.Cases.{Worked};
 ghost use Rattle.book.specs.Held.{rooms as rooms_of, contained, left};
 ghost use Rattle.book.specs.History.{History};
 ghost use Rattle.book.specs.Obeyed.{Untouched};
-ghost use Rattle.book.specs.Rules.{Does, told};
+ghost use Rattle.book.specs.Rules.{Does};
 
 use crate::book::Book;
-use crate::calls::{Answer, Call};
-use elements::error::LoadError;
+use crate::calls::{Answer, Call, Reply};
 use mesh::mesh::Mesh;
 use mesh::numbering::Numbering;
 
 // One call on a book; an export writes into this mesh, by these tables.
+// kept: book, mesh and tables apart, since the caller owns and lends each, and mesh and tables may be others at the next call
+#[tactic(auto, using(crate::proofs::HistoryFacts::history))]
 pub fn obey<N: Numbering>(
     book: &mut Book,
     mesh: &mut Mesh,
@@ -30,24 +31,15 @@ pub fn obey<N: Numbering>(
     ensures does { Does (rooms_of book.old) (contained book.old) (request (mesh_rooms mesh.old.lists) (N.Numbering.stock tables.old).capacities call.entry) result (left mesh.new (N.Numbering.stock tables.new)) (contained book.new) }
 {
     match call {
-        Call::Position(x, y, z) => answer(book.position(x, y, z)),
-        Call::Colour(x, y, z) => answer(book.colour(x, y, z)),
-        Call::Texture(u, v) => answer(book.texture(u, v)),
-        Call::Normal(x, y, z) => answer(book.normal(x, y, z)),
-        Call::Face(text) => answer(book.face(text)),
-        Call::Export(options, material) => match book.export(options, material, mesh, tables) {
-            Ok((written, skipped)) => Answer::Exported(written, skipped),
-            Err(error) => Answer::Refused(error),
-        },
+        Call::Position(x, y, z) => book.position(x, y, z)?,
+        Call::Colour(x, y, z) => book.colour(x, y, z)?,
+        Call::Texture(u, v) => book.texture(u, v)?,
+        Call::Normal(x, y, z) => book.normal(x, y, z)?,
+        Call::Face(text) => book.face(text)?,
+        Call::Export(options, material) => {
+            let (written, skipped) = book.export(options, material, mesh, tables)?;
+            return Ok(Reply::Exported(written, skipped));
+        }
     }
-}
-
-// The answer that a call gave.
-fn answer(res: Result<(), LoadError>) -> Answer
-    ensures { result ≡ told res }
-{
-    match res {
-        Ok(()) => Answer::Done,
-        Err(error) => Answer::Refused(error),
-    }
+    Ok(Reply::Done)
 }

@@ -1,7 +1,8 @@
-ghost use Rattle.std.specs.Prelude.{◌≡◌, ◌<◌, ◌≤◌, true, false, [], length, drop, is_ok, nat_le};
+ghost use Rattle.std.specs.Prelude.{◌≡◌, ◌<◌, ◌≤◌, true, [], ◌∷◌, length, drop, is_ok, MatchResult, nat_le, nat_lt};
+ghost use Rattle.elements.specs.declared.error.LoadError.TheVariants.{TableFull, MeshFull};
 ghost use Rattle.elements.specs.Cells.{blanked};
 ghost use Rattle.elements.specs.Checks.{refusal, first};
-ghost use Rattle.elements.specs.Rows.{held, items, room, roomy, Pushed};
+ghost use Rattle.elements.specs.Rows.{held, items, room, Pushed};
 ghost use Rattle.book.specs.Held.{contained};
 ghost use Rattle.book.specs.Unnamed.{named_among, others, unnamed_checks, Unnames, Lists};
 
@@ -15,6 +16,7 @@ use tables::table::CornerTable;
 impl Book {
     // Lists the positions that no waiting corner names, by their numbers from 0. The order is left open.
     // The table is needed on the way only, and ends empty.
+    #[tactic(auto, using(crate::proofs::UnnamedFacts::blanked_again))]
     pub fn unnamed<T: CornerTable<Reference>>(
         &self,
         table: &mut T,
@@ -30,10 +32,16 @@ impl Book {
     {
         list.clear(0);
         let answer = self.list_unnamed(table, list);
-        settle(table, list, answer)
+        // granted or not, the table ends empty, and a refused call leaves its list cleared
+        table.empty();
+        if answer.is_err() {
+            list.clear(0);
+        }
+        answer
     }
 
     // The same of a cleared list, where a refused call leaves what it has entered and listed by then.
+    #[tactic(auto, using(crate::proofs::UnnamedFacts::tells))]
     fn list_unnamed<T: CornerTable<Reference>>(
         &self,
         table: &mut T,
@@ -47,94 +55,63 @@ impl Book {
         ensures capacity { T.CornerTable.capacity table.new ≡ T.CornerTable.capacity table.old }
     {
         let positions = self.attributes.positions.count;
-        let corners = &self.waiting.corners;
-        if !enter_named(table, &corners.cells[..corners.count], positions) {
-            return Err(LoadError::TableFull);
-        }
-        if !list_others(table, positions, list) {
-            return Err(LoadError::MeshFull);
-        }
-        Ok(())
+        enter_named(table, self.waiting.corners.as_slice(), positions)?;
+        list_others(table, positions, list)
     }
 }
 
-// Ends the call: the table is empty, granted or not, and a refused call leaves its list cleared.
-fn settle<T: CornerTable<Reference>>(
-    table: &mut T,
-    list: &mut Row<u32>,
-    answer: Result<(), LoadError>,
-) -> Result<(), LoadError>
-    ensures same { result ≡ answer }
-    ensures granted { is_ok answer ≡ true → list.new ≡ list.old }
-    ensures refused { is_ok answer ≡ false → (held list.new ≡ blanked (held list.old) 0) × (list.new.count ≡ 0) }
-    ensures room { room list.new ≡ room list.old }
-    ensures sound { T.CornerTable.sound table.new }
-    ensures none { T.CornerTable.keys table.new ≡ [] }
-    ensures capacity { T.CornerTable.capacity table.new ≡ T.CornerTable.capacity table.old }
-{
-    table.empty();
-    if answer.is_err() {
-        list.clear(0);
-    }
-    answer
-}
-
-// The key by which a corner names its position.
-fn name_of(corner: &VertexIndices) -> Reference
-    ensures { result.at ≡ corner.now.v }
-{
-    Reference { at: corner.v }
-}
-
-// Enters those of the first `positions` positions that corners name, and tells whether the table took them all.
+// Enters those of the first `positions` positions that corners name.
+#[tactic(auto, using(crate::proofs::UnnamedFacts::enters))]
 fn enter_named<T: CornerTable<Reference>>(
     named: &mut T,
     corners: &[VertexIndices],
     positions: usize,
-) -> bool
-    ensures tells { result ≡ nat_le (length (named_among positions corners.now)) (T.CornerTable.capacity named.old) }
-    ensures holds { result ≡ true → T.CornerTable.keys named.new ≡ named_among positions corners.now }
+) -> Result<(), LoadError>
+    ensures refused { refusal result ≡ first ((nat_lt (T.CornerTable.capacity named.old) (length (named_among positions corners.now)), TableFull) ∷ []) }
+    ensures holds { is_ok result ≡ true → T.CornerTable.keys named.new ≡ named_among positions corners.now }
     ensures sound { T.CornerTable.sound named.new }
     ensures capacity { T.CornerTable.capacity named.new ≡ T.CornerTable.capacity named.old }
 {
     named.empty();
     for corner in corners {
         if corner.v < positions {
-            if named.enter(name_of(corner)).is_none() {
-                return false;
-            }
+            named
+                .enter(Reference { at: corner.v })
+                .ok_or(LoadError::TableFull)?;
         }
     }
-    true
+    Ok(())
 }
 
-// Appends the numbers below `positions` that the table does not hold, and tells whether the list took them all.
-fn list_others<T: CornerTable<Reference>>(named: &T, positions: usize, list: &mut Row<u32>) -> bool
+// Appends the numbers below `positions` that the table does not hold.
+#[tactic(auto, using(crate::proofs::UnnamedFacts::lists))]
+fn list_others<T: CornerTable<Reference>>(
+    named: &T,
+    positions: usize,
+    list: &mut Row<u32>,
+) -> Result<(), LoadError>
     requires sound { T.CornerTable.sound named.now }
     requires few { positions ≤ 16777216 }
     requires blank { list.old.count ≡ 0 }
-    ensures tells { result ≡ nat_le (length (others positions (T.CornerTable.keys named.now))) (room list.old) }
-    ensures listed { result ≡ true → items list.new ≡ others positions (T.CornerTable.keys named.now) }
+    ensures refused { refusal result ≡ first ((nat_lt (room list.old) (length (others positions (T.CornerTable.keys named.now))), MeshFull) ∷ []) }
+    ensures listed { is_ok result ≡ true → items list.new ≡ others positions (T.CornerTable.keys named.now) }
     ensures past { drop list.new.count (held list.new) ≡ drop list.new.count (held list.old) }
     ensures room { room list.new ≡ room list.old }
 {
     for at in 0..positions {
         if named.find(&Reference { at }).is_none() {
-            if !push_number(list, at) {
-                return false;
-            }
+            push_number(list, at)?;
         }
     }
-    true
+    Ok(())
 }
 
 // One number more in a list, if a cell is left for it.
-fn push_number(list: &mut Row<u32>, at: usize) -> bool
+fn push_number(list: &mut Row<u32>, at: usize) -> Result<(), LoadError>
     requires { at < 16777216 }
-    ensures tells { result ≡ roomy list.old }
-    ensures granted { result ≡ true → Pushed list.old list.new at }
-    ensures refused { result ≡ false → list.new ≡ list.old }
+    ensures refused { refusal result ≡ first ((nat_le (room list.old) list.old.count, MeshFull) ∷ []) }
+    ensures stored { MatchResult result (λ _. Pushed list.old list.new at) (λ _. list.new ≡ list.old) }
     ensures room { room list.new ≡ room list.old }
 {
-    list.push(at as u32)
+    list.push(at as u32).map_err(|_| LoadError::MeshFull)
 }

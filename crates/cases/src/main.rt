@@ -2,26 +2,25 @@
 #![tactic(auto)]
 
 use book::book::Book;
-use book::calls::{Answer, Call};
+use book::calls::{Answer, Call, Reply};
 use book::obey::obey;
-use elements::corner::{Face, MISSING_INDEX, VertexIndices};
+use elements::corner::VertexIndices;
+use elements::error::LoadError;
 use elements::options::LoadOptions;
 use elements::point::{Pair, Point};
 use elements::row::Row;
+use heap::blank::{NO_CORNER, blank_book, blank_mesh};
 use mesh::mesh::Mesh;
 use mesh::six_tables::Tables;
 use reading::counts::Counts;
 use reading::vertex::Parse;
 use std::alloc::{AllocError, Global};
 use tables::hashed::HashedTable;
-use tables::key::Reference;
+use tables::key::{Key, Reference};
 use tables::searched::SearchedTable;
 
-const NO_CORNER: VertexIndices = VertexIndices {
-    v: MISSING_INDEX,
-    vt: MISSING_INDEX,
-    vn: MISSING_INDEX,
-};
+// How many places each list has, and each table but that of the corners.
+const PLACES: usize = 16;
 
 const PLAIN: LoadOptions = LoadOptions {
     single_index: false,
@@ -33,26 +32,17 @@ const PLAIN: LoadOptions = LoadOptions {
 
 const SINGLE: LoadOptions = LoadOptions {
     single_index: true,
-    triangulate: false,
-    ignore_points: false,
-    ignore_lines: false,
-    merge_identical_points: false,
+    ..PLAIN
 };
 
 const TRIANGLES: LoadOptions = LoadOptions {
-    single_index: false,
     triangulate: true,
-    ignore_points: false,
-    ignore_lines: false,
-    merge_identical_points: false,
+    ..PLAIN
 };
 
 const MERGED: LoadOptions = LoadOptions {
-    single_index: false,
-    triangulate: false,
-    ignore_points: false,
-    ignore_lines: false,
     merge_identical_points: true,
+    ..PLAIN
 };
 
 // Corners and points are found by hashing, the others from the front.
@@ -81,40 +71,20 @@ const THREE: Held = Held {
     normals: 3,
 };
 
-fn blank_book(heap: Global) -> Result<Book, AllocError> {
-    Ok(Book::new(book::cells::Cells {
-        positions: vec![in heap; Point::ZERO; 8]?,
-        colours: vec![in heap; Point::ZERO; 8]?,
-        textures: vec![in heap; Pair::ZERO; 8]?,
-        normals: vec![in heap; Point::ZERO; 8]?,
-        corners: vec![in heap; NO_CORNER; 16]?,
-        faces: vec![in heap; Face { start: 0, count: 0 }; 4]?,
-    }))
+fn searched<K: Key>(heap: Global, blank: K) -> Result<SearchedTable<K>, AllocError> {
+    Ok(SearchedTable::new(vec![in heap; blank; PLACES]?))
 }
 
-fn blank_mesh(heap: Global) -> Result<Mesh, AllocError> {
-    Ok(Mesh::new(mesh::cells::Cells {
-        positions: vec![in heap; Point::ZERO; 16]?,
-        vertex_color: vec![in heap; Point::ZERO; 16]?,
-        texcoords: vec![in heap; Pair::ZERO; 16]?,
-        normals: vec![in heap; Point::ZERO; 16]?,
-        indices: vec![in heap; 0u32; 16]?,
-        face_arities: vec![in heap; 0u32; 4]?,
-        vertex_color_indices: vec![in heap; 0u32; 16]?,
-        texcoord_indices: vec![in heap; 0u32; 16]?,
-        normal_indices: vec![in heap; 0u32; 16]?,
-        remap: vec![in heap; 0u32; 16]?,
-    }))
-}
-
+#[tactic(auto, using(elements::proofs::ZeroFacts::zero_is))]
 fn case_tables(heap: Global, corners: usize) -> Result<CaseTables, AllocError> {
+    let no_reference = Reference { at: 0 };
     Ok(Tables {
         corners: HashedTable::new(heap, vec![in heap; NO_CORNER; corners]?)?,
-        positions: SearchedTable::new(vec![in heap; Reference { at: 0 }; 16]?),
-        textures: SearchedTable::new(vec![in heap; Reference { at: 0 }; 16]?),
-        normals: SearchedTable::new(vec![in heap; Reference { at: 0 }; 16]?),
-        points: HashedTable::new(heap, vec![in heap; Point::ZERO; 16]?)?,
-        pairs: SearchedTable::new(vec![in heap; Pair::ZERO; 16]?),
+        positions: searched(heap, no_reference)?,
+        textures: searched(heap, no_reference)?,
+        normals: searched(heap, no_reference)?,
+        points: HashedTable::new(heap, vec![in heap; Point::ZERO; PLACES]?)?,
+        pairs: searched(heap, Pair::ZERO)?,
     })
 }
 
@@ -136,18 +106,13 @@ fn fill(book: &mut Book, held: Held) {
 
 // The number of an answer: 0 where the call was granted.
 fn number(answer: Answer) -> u8 {
-    match answer {
-        Answer::Done | Answer::Exported(..) => 0,
-        Answer::Refused(error) => error.number(),
-    }
+    answer.err().map_or(0, LoadError::number)
 }
 
 fn print_numbers(rt: &HostRuntime, name: &str, row: &Row<u32>) -> anyhow::Result<()> {
     print!(rt; "  {name}")?;
-    for at in 0..row.len() {
-        if let Some(number) = row.get(at) {
-            print!(rt; " {number}")?;
-        }
+    for number in row.as_slice() {
+        print!(rt; " {number}")?;
     }
     println!(rt; "")?;
     Ok(())
@@ -156,10 +121,12 @@ fn print_numbers(rt: &HostRuntime, name: &str, row: &Row<u32>) -> anyhow::Result
 // What an export left in its mesh.
 fn print_mesh(rt: &HostRuntime, mesh: &Mesh) -> anyhow::Result<()> {
     let lists = mesh.lists();
-    let positions = lists.positions.len();
-    let textures = lists.texcoords.len();
-    let colours = lists.vertex_color.len();
-    println!(rt; "  positions {positions} textures {textures} colours {colours}")?;
+    println!(rt;
+        "  positions {} textures {} colours {}",
+        lists.positions.len(),
+        lists.texcoords.len(),
+        lists.vertex_color.len()
+    )?;
     print_numbers(rt, "indices", &lists.indices)?;
     print_numbers(rt, "arities", &lists.face_arities)?;
     print_numbers(rt, "texture indices", &lists.texcoord_indices)?;
@@ -176,7 +143,7 @@ fn export_case(
     options: LoadOptions,
 ) -> anyhow::Result<()> {
     let heap = rt.alloc();
-    let mut mesh = blank_mesh(heap)?;
+    let mut mesh = blank_mesh(heap, PLACES)?;
     let mut tables = case_tables(heap, corners)?;
     println!(rt; "{name}")?;
     for text in texts {
@@ -184,9 +151,8 @@ fn export_case(
         println!(rt; "  face {answer}")?;
     }
     let answer = obey(book, &mut mesh, &mut tables, Call::Export(options, None));
-    let told = number(answer);
-    println!(rt; "  export {told}")?;
-    if let Answer::Exported(written, skipped) = answer {
+    println!(rt; "  export {}", number(answer))?;
+    if let Ok(Reply::Exported(written, skipped)) = answer {
         println!(rt; "  written {written} skipped {skipped}")?;
         print_mesh(rt, &mesh)?;
     }
@@ -201,7 +167,7 @@ fn held_case(
     texts: &[&[u8]],
     options: LoadOptions,
 ) -> anyhow::Result<()> {
-    let mut book = blank_book(rt.alloc())?;
+    let mut book = blank_book(rt.alloc(), PLACES)?;
     fill(&mut book, held);
     export_case(rt, name, &mut book, corners, texts, options)
 }
@@ -214,12 +180,7 @@ fn reading_case(rt: &HostRuntime, token: &str) -> anyhow::Result<()> {
         normals: 3,
     };
     match VertexIndices::parse(token.as_bytes(), counts) {
-        Some(corner) => {
-            let v = corner.v;
-            let vt = corner.vt;
-            let vn = corner.vn;
-            println!(rt; "{token} reads as {v} {vt} {vn}")?;
-        }
+        Some(VertexIndices { v, vt, vn }) => println!(rt; "{token} reads as {v} {vt} {vn}")?,
         None => println!(rt; "{token} does not read")?,
     }
     Ok(())
@@ -249,9 +210,7 @@ fn reading_cases(rt: &HostRuntime) -> anyhow::Result<()> {
 fn unfolding_cases(rt: &HostRuntime) -> anyhow::Result<()> {
     let four = Held {
         positions: 4,
-        colours: 0,
-        textures: 3,
-        normals: 3,
+        ..THREE
     };
     held_case(rt, "reference 0", THREE, 16, &[b"0"], PLAIN)?;
     held_case(rt, "a fan", four, 16, &[b"1 2 3 4"], TRIANGLES)?;
@@ -263,22 +222,16 @@ fn unfolding_cases(rt: &HostRuntime) -> anyhow::Result<()> {
 
 fn numbering_cases(rt: &HostRuntime) -> anyhow::Result<()> {
     let two_textures = Held {
-        positions: 3,
-        colours: 0,
         textures: 2,
-        normals: 3,
+        ..THREE
     };
     let two_normals = Held {
-        positions: 3,
-        colours: 0,
-        textures: 3,
         normals: 2,
+        ..THREE
     };
     let one_colour = Held {
-        positions: 3,
         colours: 1,
-        textures: 3,
-        normals: 3,
+        ..THREE
     };
     held_case(
         rt,
@@ -312,7 +265,7 @@ fn numbering_cases(rt: &HostRuntime) -> anyhow::Result<()> {
 
 // Points that agree bit for bit are merged; 0 and -0 do not agree.
 fn merging_case(rt: &HostRuntime) -> anyhow::Result<()> {
-    let mut book = blank_book(rt.alloc())?;
+    let mut book = blank_book(rt.alloc(), PLACES)?;
     let _ = book.position(0.0, 0.0, 0.0);
     let _ = book.position(-0.0, 0.0, 0.0);
     let _ = book.position(0.0, 0.0, 0.0);
@@ -321,7 +274,7 @@ fn merging_case(rt: &HostRuntime) -> anyhow::Result<()> {
 
 // Positions that merge while the colours beside them do not.
 fn colours_case(rt: &HostRuntime) -> anyhow::Result<()> {
-    let mut book = blank_book(rt.alloc())?;
+    let mut book = blank_book(rt.alloc(), PLACES)?;
     let _ = book.position(5.0, 0.0, 0.0);
     let _ = book.position(6.0, 0.0, 0.0);
     let _ = book.position(5.0, 0.0, 0.0);

@@ -7,16 +7,14 @@ use std::alloc::Global;
 use std::test::Fail;
 
 // A blank book with room for two positions, no texture, three corners and two faces.
+#[tactic(auto, using(elements::proofs::ZeroFacts::zero_is))]
 fn small(heap: Global) -> Result<Book, Fail> {
-    let Ok(point) = Point::new(0.0, 0.0, 0.0) else {
-        return Err(Fail::new("zero is a number"));
-    };
     let corner = VertexIndices { v: 0, vt: 0, vn: 0 };
     Ok(Book::new(Cells {
-        positions: vec![in heap; point; 2]?,
-        colours: vec![in heap; point; 1]?,
+        positions: vec![in heap; Point::ZERO; 2]?,
+        colours: vec![in heap; Point::ZERO; 1]?,
         textures: Vec::new(heap),
-        normals: vec![in heap; point; 1]?,
+        normals: vec![in heap; Point::ZERO; 1]?,
         corners: vec![in heap; corner; 3]?,
         faces: vec![in heap; Face { start: 0, count: 0 }; 2]?,
     }))

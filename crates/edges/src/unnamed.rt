@@ -13,13 +13,11 @@ use tables::searched::SearchedTable;
 use tables::table::CornerTable;
 
 // A book with four positions and this face.
+#[tactic(auto, using(elements::proofs::ZeroFacts::zero_is))]
 fn four(rt: &impl Abort, heap: Global, text: &[u8]) -> Result<Book, Fail> {
-    let Ok(point) = Point::new(0.0, 0.0, 0.0) else {
-        return Err(Fail::new("zero is a number"));
-    };
     let corner = VertexIndices { v: 0, vt: 0, vn: 0 };
     let mut book = Book::new(Cells {
-        positions: vec![in heap; point; 4]?,
+        positions: vec![in heap; Point::ZERO; 4]?,
         colours: Vec::new(heap),
         textures: Vec::new(heap),
         normals: Vec::new(heap),
@@ -36,7 +34,7 @@ fn four(rt: &impl Abort, heap: Global, text: &[u8]) -> Result<Book, Fail> {
 // A list of four cells that was used before.
 fn used(rt: &impl Abort, heap: Global) -> Result<Row<u32>, Fail> {
     let mut list = Row::new(vec![in heap; 7; 4]?);
-    assert!(rt; list.push(9));
+    assert_eq!(rt; list.push(9), Ok(()));
     Ok(list)
 }
 

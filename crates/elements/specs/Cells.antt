@@ -1,7 +1,7 @@
 -- A list kept in cells: the first so many of them.
 --   room_of n      how many elements n cells have room for
 --   Added          one element more was written, or nothing changed
-use Rattle.std.specs.Prelude.{ℕ, min, Bool, cond, List, ◌++◌, length, drop, replicate, slice_set}
+use Rattle.std.specs.Prelude.{ℕ, min, Bool, if◌then◌else◌, List, ◌++◌, length, drop, replicate, slice_set}
 
 -- cells past the first 16,777,216 are never touched
 abbrev pub room_of : ℕ → ℕ
@@ -10,7 +10,7 @@ room_of n = min n 16777216
 module _ {X : Type 0} where
   -- the cells xs, of which the first n are in use, with the element x after these
   abbrev pub added : Bool → List X → ℕ → X → List X
-  added b xs n x = cond b (slice_set xs n x) xs
+  added b xs n x = if b then slice_set xs n x else xs
 
   -- z in every cell that a list may use
   abbrev pub blanked : List X → X → List X

@@ -10,7 +10,7 @@
 --   Absent k ks     k stands nowhere in ks
 --   Apart ks        no key stands twice in ks
 -- Their laws are in proofs/FirstFacts.
-use Rattle.std.specs.Prelude.{◌≡◌, ℕ, suc, ◌<◌, Bool, true, false, cond, ◌&&◌, ◌||◌, List, [], ◌∷◌, ◌++◌, map, length, ◌==◌, ◌≢◌, slice_index_or}
+use Rattle.std.specs.Prelude.{◌≡◌, ℕ, suc, ◌<◌, Bool, true, false, if◌then◌else◌, ◌&&◌, ◌||◌, List, [], ◌∷◌, ◌++◌, map, length, ◌==◌, ◌≢◌, slice_index_or}
 
 abbrev pub alike : List ℕ → List ℕ → Bool
 alike [] [] = true
@@ -24,7 +24,7 @@ has (k ∷ ks) m = alike k m || has ks m
 
 abbrev pub without : List ℕ → List (List ℕ) → List (List ℕ)
 without m [] = []
-without m (k ∷ ks) = cond (alike k m) (without m ks) (k ∷ without m ks)
+without m (k ∷ ks) = if alike k m then without m ks else k ∷ without m ks
 
 abbrev pub distinct : List (List ℕ) → List (List ℕ)
 distinct [] = []
@@ -32,10 +32,10 @@ distinct (k ∷ ks) = k ∷ without k (distinct ks)
 
 abbrev pub place : List (List ℕ) → List ℕ → ℕ
 place [] m = 0
-place (k ∷ ks) m = cond (alike k m) 0 (suc (place ks m))
+place (k ∷ ks) m = if alike k m then 0 else suc (place ks m)
 
 abbrev pub entered : List (List ℕ) → List ℕ → List (List ℕ)
-entered ks m = cond (has ks m) ks (ks ++ m ∷ [])
+entered ks m = if has ks m then ks else ks ++ m ∷ []
 
 abbrev pub numbers : List (List ℕ) → List ℕ
 numbers ks = map (place (distinct ks)) ks

@@ -1,17 +1,17 @@
-// Why a call was refused.
+// Why a call was refused, each with the number by which it is known.
 #[derive(Clone, Copy, PartialEq, Eq, Debug)]
 pub enum LoadError {
-    NotANumber,
-    NotAscii,
-    FaceParseError,
-    InvalidLoadOptionConfig,
-    BadRecord,
-    BookFull,
-    InvalidPolygon,
-    FaceVertexOutOfBounds,
-    FaceTexCoordOutOfBounds,
-    FaceNormalOutOfBounds,
-    FaceColorOutOfBounds,
-    TableFull,
-    MeshFull,
+    NotANumber = 1,
+    NotAscii = 2,
+    FaceParseError = 3,
+    InvalidLoadOptionConfig = 4,
+    BadRecord = 5,
+    BookFull = 6,
+    InvalidPolygon = 7,
+    FaceVertexOutOfBounds = 8,
+    FaceTexCoordOutOfBounds = 9,
+    FaceNormalOutOfBounds = 10,
+    FaceColorOutOfBounds = 11,
+    TableFull = 12,
+    MeshFull = 13,
 }

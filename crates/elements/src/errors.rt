@@ -2,6 +2,7 @@ ghost use Rattle.std.specs.Prelude.{◌≡◌};
 ghost use Rattle.elements.specs.Errors.{number_of};
 
 use crate::error::LoadError;
+use std::error::Error;
 use std::fmt;
 
 impl LoadError {
@@ -9,21 +10,7 @@ impl LoadError {
     pub fn number(self) -> u8
         ensures { result ≡ number_of self }
     {
-        match self {
-            LoadError::NotANumber => 1,
-            LoadError::NotAscii => 2,
-            LoadError::FaceParseError => 3,
-            LoadError::InvalidLoadOptionConfig => 4,
-            LoadError::BadRecord => 5,
-            LoadError::BookFull => 6,
-            LoadError::InvalidPolygon => 7,
-            LoadError::FaceVertexOutOfBounds => 8,
-            LoadError::FaceTexCoordOutOfBounds => 9,
-            LoadError::FaceNormalOutOfBounds => 10,
-            LoadError::FaceColorOutOfBounds => 11,
-            LoadError::TableFull => 12,
-            LoadError::MeshFull => 13,
-        }
+        self as u8
     }
 
     // What went wrong, for a person.
@@ -54,8 +41,8 @@ impl LoadError {
 
 impl fmt::Display for LoadError {
     fn fmt<W: fmt::Write>(&self, f: &mut fmt::Formatter<W>) -> fmt::Result {
-        let number = self.number();
-        let meaning = self.meaning();
-        write!(f, "refused with {number}: {meaning}")
+        write!(f, "refused with {}: {}", self.number(), self.meaning())
     }
 }
+
+impl Error for LoadError {}

@@ -1,8 +1,14 @@
-ghost use Rattle.std.specs.Prelude.{◌≡◌, ◌+◌, ◌<◌, ◌≤◌, min, cond, length, Some, None, MatchOption, nat_lt, slice_index_or};
+ghost use Rattle.std.specs.Prelude.{◌≡◌, ◌+◌, ◌<◌, ◌≤◌, min, length, is_ok, Some, None, MatchOption, nat_lt, slice_index_or};
 ghost use Rattle.elements.specs.Cells.{room_of as most_of, added, blanked};
 
 // The most elements that a list has, however many cells it is lent.
 pub const MOST: usize = 16_777_216;
+
+// A list has no cell left for one element more.
+#[derive(Clone, Copy, PartialEq, Eq, Debug)]
+pub struct Full;
+
+// kept: functions over lent cells and a count, so that any memory can hold a list.
 
 // How many elements `cells` cells have room for.
 pub fn room_of(cells: usize) -> usize
@@ -12,15 +18,15 @@ pub fn room_of(cells: usize) -> usize
 }
 
 // Writes one element after the first `count`, where a cell is left for it.
-pub fn append<T: Copy>(cells: &mut [T], count: usize, item: T) -> bool
-    ensures granted { result ≡ nat_lt count (most_of (length cells.old)) }
-    ensures cells { cells.new ≡ added result cells.old count item }
+pub fn append<T: Copy>(cells: &mut [T], count: usize, item: T) -> Result<(), Full>
+    ensures granted { is_ok result ≡ nat_lt count (most_of (length cells.old)) }
+    ensures cells { cells.new ≡ added (is_ok result) cells.old count item }
 {
     if count >= room_of(cells.len()) {
-        return false;
+        return Err(Full);
     }
     cells[count] = item;
-    true
+    Ok(())
 }
 
 // Writes `blank` into every cell that a list may use.
@@ -28,8 +34,8 @@ pub fn clear<T: Copy>(cells: &mut [T], blank: T)
     ensures { cells.new ≡ blanked cells.old blank }
 {
     let room = room_of(cells.len());
-    for at in 0..room {
-        cells[at] = blank;
+    for cell in cells[..room].iter_mut() {
+        *cell = blank;
     }
 }
 
@@ -37,9 +43,5 @@ pub fn clear<T: Copy>(cells: &mut [T], blank: T)
 pub fn read<T: Copy>(cells: &[T], count: usize, at: usize) -> Option<T>
     ensures some { MatchOption result (min count (most_of (length cells.now)) ≤ at) (λ x. (at < min count (most_of (length cells.now))) × (x ≡ slice_index_or cells.now at x)) }
 {
-    if at < count && at < room_of(cells.len()) {
-        Some(cells[at])
-    } else {
-        None
-    }
+    cells[..count.min(room_of(cells.len()))].get(at).copied()
 }

@@ -1,7 +1,8 @@
 ghost use Rattle.std.specs.Prelude.{◌≡◌, false, is_nan};
 
 // A position, a colour or a normal: three numbers, none of them NaN.
-#[derive(Clone, Copy)]
+// kept: two structs with names for their numbers and no array of `N`; what is done with elements is generic over both
+#[derive(Clone, Copy, Debug)]
 pub struct Point {
     pub x: f32,
     pub y: f32,
@@ -10,7 +11,7 @@ pub struct Point {
 }
 
 // A texture coordinate: two numbers, none of them NaN.
-#[derive(Clone, Copy)]
+#[derive(Clone, Copy, Debug)]
 pub struct Pair {
     pub u: f32,
     pub v: f32,

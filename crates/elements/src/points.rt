@@ -1,4 +1,5 @@
 ghost use Rattle.std.specs.Prelude.{◌≡◌, true, false, ◌||◌, [], ◌∷◌, IfOk, is_nan};
+ghost use Rattle.elements.specs.Bits.{point_bits, pair_bits};
 ghost use Rattle.elements.specs.Checks.{refusal, first};
 ghost use Rattle.elements.specs.declared.error.LoadError.TheVariants.{NotANumber};
 
@@ -23,6 +24,13 @@ impl Point {
         }
         Ok(Point { x, y, z })
     }
+
+    // The bits of the three numbers, so that 0 and -0 are told apart.
+    pub fn bits(&self) -> [u32; 3]
+        ensures { result ≡ point_bits self.now }
+    {
+        [self.x.to_bits(), self.y.to_bits(), self.z.to_bits()]
+    }
 }
 
 impl Pair {
@@ -38,5 +46,12 @@ impl Pair {
             return Err(LoadError::NotANumber);
         }
         Ok(Pair { u, v })
+    }
+
+    // The bits of the two numbers.
+    pub fn bits(&self) -> [u32; 2]
+        ensures { result ≡ pair_bits self.now }
+    {
+        [self.u.to_bits(), self.v.to_bits()]
     }
 }

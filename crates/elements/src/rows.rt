@@ -1,8 +1,8 @@
-ghost use Rattle.std.specs.Prelude.{◌≡◌, ◌<◌, ◌≤◌, true, false, [], MatchOption, slice_index_or};
+ghost use Rattle.std.specs.Prelude.{◌≡◌, ◌<◌, ◌≤◌, true, false, [], MatchOption, is_ok, slice_index_or};
 ghost use Rattle.elements.specs.Cells.{blanked};
 ghost use Rattle.elements.specs.Rows.{held, items, room, roomy, Pushed};
 
-use crate::list;
+use crate::list::{self, Full};
 use crate::row::Row;
 
 impl<T: Copy> Row<T> {
@@ -17,8 +17,7 @@ impl<T: Copy> Row<T> {
     pub fn len(&self) -> usize
         ensures { result ≡ self.now.count }
     {
-        let Row { count, .. } = self;
-        *count
+        self.as_slice().len()
     }
 
     // How many elements there is room for.
@@ -26,6 +25,13 @@ impl<T: Copy> Row<T> {
         ensures { result ≡ room self.now }
     {
         list::room_of(self.cells.len())
+    }
+
+    // The elements, in order.
+    pub fn as_slice(&self) -> &[T]
+        ensures { result.now ≡ items self.now }
+    {
+        &self.cells[..self.count]
     }
 
     // The element at a place.
@@ -36,19 +42,16 @@ impl<T: Copy> Row<T> {
     }
 
     // One element more, if a cell is left for it.
-    pub fn push(&mut self, item: T) -> bool
-        ensures tells { result ≡ roomy self.old }
-        ensures granted { result ≡ true → Pushed self.old self.new item }
-        ensures refused { result ≡ false → self.new ≡ self.old }
+    pub fn push(&mut self, item: T) -> Result<(), Full>
+        ensures tells { is_ok result ≡ roomy self.old }
+        ensures granted { is_ok result ≡ true → Pushed self.old self.new item }
+        ensures refused { is_ok result ≡ false → self.new ≡ self.old }
         ensures room { room self.new ≡ room self.old }
     {
         let count = self.count;
-        if count >= self.room() {
-            return false;
-        }
-        list::append(&mut self.cells, count, item);
+        list::append(&mut self.cells, count, item)?;
         self.count = count + 1;
-        true
+        Ok(())
     }
 
     // No element; the cells keep what they hold.

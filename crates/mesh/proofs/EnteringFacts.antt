@@ -1,9 +1,9 @@
 -- A table's answer, told apart by whether the key was new.
-use Rattle.std.proofs.Common.{◌≡◌, ℕ, List, length, Some, None, Option, sym, ◌∙◌, subst, inl, inr, ⊎_elim, MatchOption}
+use Rattle.std.proofs.Common.{◌≡◌, ℕ, List, length, sym, ◌∙◌, subst, inl, inr, ⊎_elim}
 use Rattle.std.proofs.lemmas.Bool.{cases_Bool}
 use Rattle.elements.specs.First.{has, PlaceOf, Absent}
 use Rattle.elements.proofs.FirstFacts.{absent_lacks, place_of, place_none, entered-old, entered-new}
-use Rattle.tables.specs.Tables.{Refused, Placed as Entered, Entering}
+use Rattle.tables.specs.Tables.{Refused, Placed as Entered}
 use Rattle.mesh.specs.Entering.{Placed}
 
 pub took : (cap : ℕ) (m : List ℕ) (ms ns : List (List ℕ)) (i : ℕ) → Entered cap m ms ns i → Placed m ms ns i
@@ -15,7 +15,3 @@ took cap m ms ns i h =
 
 pub met_full : (cap : ℕ) (m : List ℕ) (ms ns : List (List ℕ)) → Refused cap m ms ns → Absent m ms × (length ms ≡ cap) × (ns ≡ ms)
 met_full cap m ms ns h = (absent_lacks ms m h.new, h.full, h.holds)
-
-pub told : (cap : ℕ) (m : List ℕ) (ms ns : List (List ℕ)) (o : Option ℕ) → Entering cap m ms ns o → MatchOption o (Absent m ms × (length ms ≡ cap) × (ns ≡ ms)) (λ i. Placed m ms ns i)
-told cap m ms ns None h = met_full cap m ms ns h
-told cap m ms ns (Some i) h = took cap m ms ns i h

@@ -7,11 +7,11 @@ pub mod MultiFacts
 pub mod MultiStepFacts
 pub mod MergeFacts
 pub mod MergeStart
-pub mod MergeCells
 pub mod MergeRows
 pub mod MergeWalk
 pub mod MergeAll
 pub mod UnfoldFacts
+pub mod UnfoldWriter
 pub mod UnfoldCells
 pub mod UnfoldFaces
 pub mod UnfoldArity

@@ -35,7 +35,6 @@ module _ (xs : List (List ℕ)) where
 
   -- a walk's numbers, looked up, are the new ones
   pub renumbered-through : (ns : List ℕ) → Within (length xs) ns → looked_up (numbers xs) ns ≡ renumbered xs ns
-  unfolding looked_up
   renumbered-through ns w = map-within (length xs) (through (numbers xs)) new through-numbers ns w
 
   has-old : (n : ℕ) → n < length xs → has (distinct xs) (get_or xs n []) ≡ true

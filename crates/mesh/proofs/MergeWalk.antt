@@ -1,18 +1,27 @@
 -- The walk over the elements that are merged: what holds after the first of them, and at a refusal.
-use Rattle.std.proofs.Common.{◌≡◌, ℕ, ◌+◌, ◌-◌, ◌<◌, ◌≤◌, cond, eqb, List, [], ◌∷◌, ◌++◌, map, length, get_or, take, drop, set, Some, None, sym, refl, ap, ◌∙◌, subst, ⊎_elim, arith}
-use Rattle.std.proofs.lemmas.List.{length_push, length-map, length-take-le, length-set, map_push, map_more, take-map, take-take, take_more_set, get_or-drop, drop-drop, drop-set-lt}
-use Rattle.std.proofs.lemmas.Bool.{lt-ltb, le-ltb, cond-true, cond-false, eqb-true, eqb-false, cases_Bool}
+use Rattle.std.proofs.Common.{◌≡◌, ℕ, ◌+◌, ◌<◌, ◌≤◌, List, [], ◌∷◌, ◌++◌, map, length, get_or, take, drop, set, Some, None, Option, sym, ap, ◌∙◌, subst, ⊎_elim, arith}
+use Rattle.std.proofs.lemmas.List.{length_push, length-map, length-take-le, length-set, map_push, map_more, take-map, take_more_set, get_or-drop, drop-drop, drop-set-lt}
+use Rattle.std.proofs.lemmas.Bool.{lt-ltb, cond-true}
 use Rattle.elements.specs.declared.row.Row.{Row}
 use Rattle.elements.specs.declared.error.LoadError.TheVariants.{TableFull}
-use Rattle.elements.specs.Checks.{first}
 use Rattle.elements.specs.First.{distinct, numbers, place, entered, PlaceOf, Absent}
-use Rattle.elements.specs.Rows.{held, items, room, Pushed}
+use Rattle.elements.specs.Rows.{items, room, Pushed}
 use Rattle.elements.proofs.FirstFacts.{has-at, lacks_absent, place_unique, place_none, entered-old, entered-new, apart_distinct, distinct_more, numbers_more, distinct-take-le, length-numbers}
 use Rattle.elements.proofs.RowFacts.{length-items}
+use Rattle.tables.specs.Tables.{Entering}
 use Rattle.mesh.specs.Entering.{Placed}
+use Rattle.mesh.proofs.EnteringFacts.{took, met_full}
 use Rattle.mesh.specs.Surface.{over}
-use Rattle.mesh.specs.Merges.{FirstsKept, Steady}
-use Rattle.mesh.proofs.MergeRows.{steady-pushed, steady-same, steady_then}
+use Rattle.mesh.specs.Merges.{Steady, too_many}
+use Rattle.mesh.proofs.MergeRows.{steady-pushed, steady_then}
+
+-- a table's answer, once it is known
+module _ (cap : ℕ) (m : List ℕ) (ms ns : List (List ℕ)) (o : Option ℕ) where
+  pub placed_at : (n : ℕ) → o ≡ Some n → Entering cap m ms ns o → Placed m ms ns n
+  placed_at n e h = took cap m ms ns n (subst (λ p. Entering cap m ms ns p) e h)
+
+  pub absent_at : o ≡ None → Entering cap m ms ns o → Absent m ms × (length ms ≡ cap) × (ns ≡ ms)
+  absent_at e h = met_full cap m ms ns (subst (λ p. Entering cap m ms ns p) e h)
 
 module _ {E : Type 0} (meaning : E → List ℕ) where
   -- after the first `at` of the elements xs: ys are the cells now, the first `kept` of them the first occurrences, which the keys ks name
@@ -26,7 +35,7 @@ module _ {E : Type 0} (meaning : E → List ℕ) where
     pub within : length ks ≤ cap
     pub steady : Steady 0 r s
 
-  module _ (cap : ℕ) (xs : List E) (at : ℕ) (ys : List E) (kept : ℕ) (r s : Row ℕ) (ks : List (List ℕ)) (l : at < length xs) (st : Walked cap xs at ys kept r s ks) where
+  module _ {cap : ℕ} {xs : List E} {at : ℕ} {ys : List E} {kept : ℕ} {r s : Row ℕ} {ks : List (List ℕ)} (l : at < length xs) (st : Walked cap xs at ys kept r s ks) where
     -- as many are kept as there are keys
     pub kept-all : kept ≡ length ks
     kept-all =
@@ -73,7 +82,7 @@ module _ {E : Type 0} (meaning : E → List ℕ) where
           subst P (sym st.keys) (place_unique (distinct (map meaning (take at xs))) (meaning x) n (apart_distinct (map meaning (take at xs)))) h
 
       -- an element that was met before
-      walked_old : (n : ℕ) (ks' : List (List ℕ)) (s' : Row ℕ) → Placed (meaning x) ks ks' n → (n ≡ kept → ⊥) → length ks' ≤ cap → Pushed s s' n → s.count < room s
+      pub walked_old : (n : ℕ) (ks' : List (List ℕ)) (s' : Row ℕ) → Placed (meaning x) ks ks' n → (n ≡ kept → ⊥) → length ks' ≤ cap → Pushed s s' n → s.count < room s
           → Walked cap xs (at + 1) ys kept r s' ks'
       walked_old n ks' s' placed ne fit p h = ⊎_elim
           (λ old.
@@ -91,7 +100,7 @@ module _ {E : Type 0} (meaning : E → List ℕ) where
           placed
 
       -- one that is new is kept
-      walked_new : (n : ℕ) (ks' : List (List ℕ)) (s' : Row ℕ) → Placed (meaning x) ks ks' n → n ≡ kept → length ks' ≤ cap → Pushed s s' n → s.count < room s
+      pub walked_new : (n : ℕ) (ks' : List (List ℕ)) (s' : Row ℕ) → Placed (meaning x) ks ks' n → n ≡ kept → length ks' ≤ cap → Pushed s s' n → s.count < room s
           → Walked cap xs (at + 1) (set ys kept x) (kept + 1) r s' ks'
       walked_new n ks' s' placed is fit p h = ⊎_elim
           (λ old. let k = kept-all in let b = old.0.0 in absurd (omega arith))
@@ -111,63 +120,11 @@ module _ {E : Type 0} (meaning : E → List ℕ) where
           })
           placed
 
-      -- either way, as the code tells them apart
-      pub walked_next : (n : ℕ) (ks' : List (List ℕ)) (s' : Row ℕ) → Placed (meaning x) ks ks' n → length ks' ≤ cap → Pushed s s' n → s.count < room s
-          → (ys' : List E) (kept' : ℕ) → ys' ≡ cond (eqb n kept) (set ys kept x) ys → kept' ≡ cond (eqb n kept) (kept + 1) kept
-          → Walked cap xs (at + 1) ys' kept' r s' ks'
-      walked_next n ks' s' placed fit p h ys' kept' ey ek =
-          let P : List E → ℕ → Type 0 = λ zs m. Walked cap xs (at + 1) zs m r s' ks' in
-          ⊎_elim
-          (λ t. subst (λ m. P ys' m) (sym (ek ∙ cond-true (eqb n kept) (kept + 1) kept t)) (subst (λ zs. P zs (kept + 1)) (sym (ey ∙ cond-true (eqb n kept) (set ys kept x) ys t))
-          (walked_new n ks' s' placed (eqb-true n kept t) fit p h)))
-          (λ t. subst (λ m. P ys' m) (sym (ek ∙ cond-false (eqb n kept) (kept + 1) kept t)) (subst (λ zs. P zs kept) (sym (ey ∙ cond-false (eqb n kept) (set ys kept x) ys t))
-          (walked_old n ks' s' placed (eqb-false n kept t) fit p h)))
-          (cases_Bool (eqb n kept))
-
       -- a full table has a key too few for all of the elements
-      pub walked_full : (count : ℕ) → at < count → Absent (meaning x) ks → length ks ≡ cap
-          → Some TableFull ≡ first ((over cap (distinct (map meaning (take count xs))), TableFull) ∷ [])
-      walked_full count lt absent full =
-          let ms = map meaning (take count xs) in
-          let part : map meaning (take (at + 1) xs) ≡ take (at + 1) ms = ap (map meaning) (sym (take-take (at + 1) count xs (omega arith))) ∙ sym (take-map meaning (at + 1) (take count xs)) in
+      pub walked_full : Absent (meaning x) ks → length ks ≡ cap → Some TableFull ≡ too_many cap (map meaning xs)
+      walked_full absent full =
+          let ms = map meaning xs in
           let more = ap length (all_more ∙ entered-new ks (meaning x) (lacks_absent ks (meaning x) absent)) ∙ length_push ks (meaning x) in
           let le = distinct-take-le (at + 1) ms in
-          let same_length = ap (λ zs. length (distinct zs)) part in
+          let same_length = ap (λ zs. length (distinct zs)) (take-map meaning (at + 1) xs) in
           sym (cond-true (over cap (distinct ms)) (Some TableFull) None (lt-ltb cap (length (distinct ms)) (omega arith)))
-
-  -- what lies further on is as it was
-  pub walked_rest : (cap : ℕ) (xs : List E) (at : ℕ) (ys : List E) (kept : ℕ) (r s : Row ℕ) (ks : List (List ℕ)) → Walked cap xs at ys kept r s ks
-      → (count : ℕ) → at ≤ count → drop count ys ≡ drop count xs
-  walked_rest cap xs at ys kept r s ks st count le =
-      let n : at + (count - at) ≡ count = omega arith in
-      ap (λ k. drop k ys) (sym n) ∙ (sym (drop-drop (count - at) at ys) ∙ (ap (drop (count - at)) st.ahead ∙ (drop-drop (count - at) at xs ∙ ap (λ k. drop k xs) n)))
-
-  -- before the first of them
-  pub walked_none : (cap : ℕ) (xs : List E) (r : Row ℕ) (ks : List (List ℕ)) → ks ≡ [] → r.count ≡ 0 → Walked cap xs 0 xs 0 r r ks
-  walked_none cap xs r ks none start =
-      record {
-        keys = none;
-        firsts = sym none;
-        few = omega arith;
-        ahead = refl;
-        long = refl;
-        numbered = ap (λ n. take n (held r)) start;
-        within = let n = ap length none in omega arith;
-        steady = steady-same 0 r;
-      }
-
-  -- all of them
-  pub walked_all : (cap : ℕ) (xs : List E) (at : ℕ) (ys : List E) (kept : ℕ) (r s : Row ℕ) (ks : List (List ℕ)) → Walked cap xs at ys kept r s ks
-      → (count : ℕ) → at ≡ count → count ≤ length xs
-      → FirstsKept meaning (take count xs) ys kept (items s) × (None ≡ first ((over cap (distinct (map meaning (take count xs))), TableFull) ∷ []))
-  walked_all cap xs at ys kept r s ks st count done le =
-      let n = ap length (st.keys ∙ ap (λ k. distinct (map meaning (take k xs))) done) in
-      let w = st.within in
-      let m = length-take-le count xs le in (
-        record {
-          firsts = st.firsts ∙ (st.keys ∙ ap (λ k. distinct (map meaning (take k xs))) done);
-          numbers = st.numbered ∙ ap (λ k. numbers (map meaning (take k xs))) done;
-          few = let f = st.few in omega arith;
-        },
-        sym (cond-false (over cap (distinct (map meaning (take count xs)))) (Some TableFull) None (le-ltb cap (length (distinct (map meaning (take count xs)))) (omega arith))),
-      )

@@ -9,9 +9,9 @@ use Rattle.elements.specs.Bits.{point_bits, pair_bits}
 use Rattle.elements.specs.Checks.{first}
 use Rattle.elements.specs.Contents.{Sources}
 use Rattle.elements.specs.Corners.{refs}
-use Rattle.elements.specs.First.{distinct, place, entered, numbers, PlaceOf, Absent, Apart}
-use Rattle.elements.proofs.FirstFacts.{apart_distinct, distinct_more, numbers_more, entered-old, entered-new, has-at, lacks_absent, place_unique, place_none}
-use Rattle.mesh.specs.Entering.{Placed}
+use Rattle.elements.specs.First.{distinct, place, has, entered, numbers}
+use Rattle.elements.proofs.FirstFacts.{distinct_more, numbers_more, entered-old, entered-new, place_of, place_none}
+use Rattle.tables.specs.Tables.{Placed, Refused}
 use Rattle.mesh.specs.declared.lists.Lists.{Lists}
 use Rattle.mesh.specs.declared.single.Vertex.{Vertex}
 use Rattle.mesh.specs.Surface.{Surface, Capacities, over, lacks}
@@ -22,26 +22,7 @@ use Rattle.mesh.specs.Steps.{SingleOf}
 use Rattle.mesh.specs.Single.{attached, followed, bits_of, Changed, Settles, numbered_again, widened}
 use Rattle.mesh.proofs.SingleRowFacts.{padded-none, filled_more}
 use Rattle.mesh.proofs.SingleListFacts.{or_false}
-use Rattle.mesh.proofs.SingleSourceFacts.{some-none, asked, source_checks, Gathered, length_bits}
-
--- ---- checks in their order
-
-module _ {E : Type 0} where
-  -- what passes the first checks is up to those after them
-  pub first_after : (xs ys : List (Bool × E)) → first xs ≡ None → first (xs ++ ys) ≡ first ys
-  first_after [] ys h = refl
-  first_after (x ∷ xs) ys h = ⊎_elim
-      (λ t. absurd (some-none x.1 (sym (cond-true x.0 (Some x.1) (first xs) t) ∙ h)))
-      (λ f. cond-false x.0 (Some x.1) (first (xs ++ ys)) f ∙ first_after xs ys (sym (cond-false x.0 (Some x.1) (first xs) f) ∙ h))
-      (cases_Bool x.0)
-
-  -- what fails them is refused by them
-  pub first_before : (xs ys : List (Bool × E)) (e : E) → first xs ≡ Some e → first (xs ++ ys) ≡ Some e
-  first_before [] ys e h = absurd (some-none e (sym h))
-  first_before (x ∷ xs) ys e h = ⊎_elim
-      (λ t. cond-true x.0 (Some x.1) (first (xs ++ ys)) t ∙ (sym (cond-true x.0 (Some x.1) (first xs) t) ∙ h))
-      (λ f. cond-false x.0 (Some x.1) (first (xs ++ ys)) f ∙ first_before xs ys e (sym (cond-false x.0 (Some x.1) (first xs) f) ∙ h))
-      (cases_Bool x.0)
+use Rattle.mesh.proofs.SingleSourceFacts.{first_before, first_after, asked, source_checks, Gathered, length_bits}
 
 -- ---- fillers
 
@@ -142,25 +123,18 @@ module _ (s : Sources) (ns : List ℕ) (c : VertexIndices) (v : Vertex) (ga : Ga
         ap (λ (k : List (List ℕ)). mesh_of s ns k (numbers (corner_keys cs) ++ i ∷ [])) (e ∙ sym (keys-more s ns c cs m ks st))
         ∙ ap (mesh_of s ns (distinct (corner_keys (cs ++ c ∷ [])))) (ap (λ (j : ℕ). numbers (corner_keys cs) ++ j ∷ []) p ∙ sym numbers_again)
 
-    -- the mesh with the number i, which a key had already or now has
-    old-single : (ks' : List (List ℕ)) (i : ℕ) → PlaceOf (refs c) ks i → ks' ≡ ks → (numbered_again m i ≡ with_arities ns (single s (cs ++ c ∷ []))) × (ks' ≡ distinct (corner_keys (cs ++ c ∷ [])))
-    old-single ks' i at e =
-        let P : List (List ℕ) → Type 0 = Apart in
-        let same = e ∙ sym (entered-old ks (refs c) (has-at ks (refs c) i at)) in (
-          ap (λ (w : Surface). numbered_again w i) (as_mesh ∙ ap (λ (k : List (List ℕ)). mesh_of s ns k (numbers (corner_keys cs))) (sym e))
-              ∙ whole ks' i same (place_unique ks (refs c) i (subst P (sym st.keys) (apart_distinct (corner_keys cs))) at),
-          same ∙ sym (keys-more s ns c cs m ks st),
-        )
+    -- the mesh with the number of a key that it had, or has now
+    old-single : (ks' : List (List ℕ)) (i : ℕ) → has ks (refs c) ≡ true → ks' ≡ entered ks (refs c) → i ≡ place ks (refs c) → numbered_again m i ≡ with_arities ns (single s (cs ++ c ∷ []))
+    old-single ks' i old more at =
+        let same : ks ≡ ks' = sym (more ∙ entered-old ks (refs c) old) in
+        ap (λ (w : Surface). numbered_again w i) (as_mesh ∙ ap (λ (k : List (List ℕ)). mesh_of s ns k (numbers (corner_keys cs))) same) ∙ whole ks' i more at
 
-    new-single : (ks' : List (List ℕ)) (i : ℕ) → Absent (refs c) ks → i ≡ length ks → ks' ≡ ks ++ refs c ∷ [] → (numbered_again (widened m v) i ≡ with_arities ns (single s (cs ++ c ∷ []))) × (ks' ≡ distinct (corner_keys (cs ++ c ∷ [])))
-    new-single ks' i absent at e =
-        let lacks = lacks_absent ks (refs c) absent in
-        let more = e ∙ sym (entered-new ks (refs c) lacks) in (
-          ap (λ (w : Surface). numbered_again (widened w v) i) as_mesh
-              ∙ (ap (λ (w : Surface). numbered_again w i) (widened_more ks (numbers (corner_keys cs)) ∙ ap (λ (k : List (List ℕ)). mesh_of s ns k (numbers (corner_keys cs))) (sym e))
-              ∙ whole ks' i more (at ∙ sym (place_none ks (refs c) lacks))),
-          more ∙ sym (keys-more s ns c cs m ks st),
-        )
+    new-single : (ks' : List (List ℕ)) (i : ℕ) → has ks (refs c) ≡ false → ks' ≡ entered ks (refs c) → i ≡ place ks (refs c) → numbered_again (widened m v) i ≡ with_arities ns (single s (cs ++ c ∷ []))
+    new-single ks' i new more at =
+        let larger : ks ++ refs c ∷ [] ≡ ks' = sym (more ∙ entered-new ks (refs c) new) in
+        ap (λ (w : Surface). numbered_again (widened w v) i) as_mesh
+        ∙ (ap (λ (w : Surface). numbered_again w i) (widened_more ks (numbers (corner_keys cs)) ∙ ap (λ (k : List (List ℕ)). mesh_of s ns k (numbers (corner_keys cs))) larger)
+        ∙ whole ks' i more at)
 
 -- ---- the outcome of one corner more
 
@@ -175,37 +149,42 @@ module _ (s : Sources) (n : Capacities) (c : VertexIndices) (p : Lists) (ns : Li
   adds_refused e h = first_before (source_checks s c) later_checks e h
 
   module _ (ks : List (List ℕ)) (st : SingleOf s ns cs (surface p) ks) (good : first (source_checks s c) ≡ None) where
-    pub adds_crowded : Absent (refs c) ks → length ks ≡ n.corners → first (single_checks s (rooms p) n ns cs c) ≡ Some TableFull
-    adds_crowded absent full =
-        let e = keys-more s ns c cs (surface p) ks st ∙ entered-new ks (refs c) (lacks_absent ks (refs c) absent) in
+    pub adds_crowded : (ks' : List (List ℕ)) → Refused n.corners (refs c) ks ks' → first (single_checks s (rooms p) n ns cs c) ≡ Some TableFull
+    adds_crowded ks' h =
+        let e = keys-more s ns c cs (surface p) ks st ∙ entered-new ks (refs c) h.new in
         let l = ap length e ∙ length_push ks (refs c) in
+        let full = h.full in
         first_after (source_checks s c) later_checks good ∙ cond-true _ _ _ (lt-ltb n.corners (length (distinct (corner_keys (cs ++ c ∷ [])))) (omega arith))
 
-    module _ (v : Vertex) (ga : Gathered s c v) (ks' : List (List ℕ)) (i : ℕ) (h : Placed (refs c) ks ks' i) (within : length ks' ≤ n.corners) (q : Lists) (b : Bool)
+    module _ (v : Vertex) (ga : Gathered s c v) (ks' : List (List ℕ)) (i : ℕ) (h : Placed n.corners (refs c) ks ks' i) (within : length ks' ≤ n.corners) (q : Lists) (b : Bool)
         (old : i < p.positions.count → Settles p q (numbered_again (surface p) i) b) (new : p.positions.count ≤ i → Settles p q (numbered_again (widened (surface p) v) i) b) where
+      all-keys : ks' ≡ distinct (corner_keys (cs ++ c ∷ []))
+      all-keys = h.holds ∙ sym (keys-more s ns c cs (surface p) ks st)
+
       -- the corner is settled as the rules have it
-      settled_single : Settles p q (with_arities ns (single s (cs ++ c ∷ []))) b × (ks' ≡ distinct (corner_keys (cs ++ c ∷ [])))
+      settled_single : Settles p q (with_arities ns (single s (cs ++ c ∷ []))) b
       settled_single =
           let P : Surface → Type 0 = λ w. Settles p q w b in
           let many : p.positions.count ≡ length ks = sym (length_bits point_bits p.positions) ∙ as_many s ns c v ga cs (surface p) ks st in
+          let at = h.at in
           ⊎_elim
-          (λ o. let low = o.0.0 in let e = old-single s ns c v ga cs (surface p) ks st ks' i o.0 o.1 in (subst P e.0 (old (omega arith)), e.1))
-          (λ w. let at = w.1 in let e = new-single s ns c v ga cs (surface p) ks st ks' i w.0 w.1 w.2 in (subst P e.0 (new (omega arith)), e.1))
-          h
+          (λ o. let low = (place_of ks (refs c) o).0 in subst P (old-single s ns c v ga cs (surface p) ks st ks' i o h.holds h.at) (old (omega arith)))
+          (λ w. let high = place_none ks (refs c) w in subst P (new-single s ns c v ga cs (surface p) ks st ks' i w h.holds h.at) (new (omega arith)))
+          (cases_Bool (has ks (refs c)))
 
       fits_table : over n.corners (distinct (corner_keys (cs ++ c ∷ []))) ≡ false
       fits_table =
-          let e = ap length settled_single.1 in
+          let e = ap length all-keys in
           le-ltb n.corners (length (distinct (corner_keys (cs ++ c ∷ [])))) (omega arith)
 
       pub adds_full : b ≡ false → first (single_checks s (rooms p) n ns cs c) ≡ Some MeshFull
       adds_full e =
-          first_after (source_checks s c) later_checks good ∙ (cond-false _ _ _ fits_table ∙ cond-true _ _ _ (not-false (lacks (rooms p) (with_arities ns (single s (cs ++ c ∷ [])))) (sym settled_single.0.tells ∙ e)))
+          first_after (source_checks s c) later_checks good ∙ (cond-false _ _ _ fits_table ∙ cond-true _ _ _ (not-false (lacks (rooms p) (with_arities ns (single s (cs ++ c ∷ [])))) (sym settled_single.tells ∙ e)))
 
       pub adds_done : b ≡ true → (first (single_checks s (rooms p) n ns cs c) ≡ None) × SingleOf s ns (cs ++ c ∷ []) (surface q) ks'
       adds_done e = (
-        first_after (source_checks s c) later_checks good ∙ (cond-false _ _ _ fits_table ∙ cond-false _ _ _ (not-true (lacks (rooms p) (with_arities ns (single s (cs ++ c ∷ [])))) (sym settled_single.0.tells ∙ e))),
-        record { surface = settled_single.0.granted e; keys = settled_single.1 },
+        first_after (source_checks s c) later_checks good ∙ (cond-false _ _ _ fits_table ∙ cond-false _ _ _ (not-true (lacks (rooms p) (with_arities ns (single s (cs ++ c ∷ [])))) (sym settled_single.tells ∙ e))),
+        record { surface = settled_single.granted e; keys = all-keys },
       )
 
 -- whichever way a corner is settled, no other list changes

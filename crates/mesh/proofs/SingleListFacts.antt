@@ -1,7 +1,7 @@
 -- The lists of a mesh after one corner more was to be written.
-use Rattle.std.proofs.Common.{◌≡◌, ℕ, zero, suc, ◌-◌, Bool, true, false, cond, not, ◌||◌, eqb, ltb, List, [], ◌∷◌, ◌++◌, map, length, replicate, Some, None, Option, sym, refl, ap, ◌∙◌, subst, ⊎_elim, arith}
-use Rattle.std.proofs.lemmas.Bool.{lt-ltb, both_ways, not-true, not-false, or_left, or_right, or_from, or_parts, or_cases, ltb-true}
-use Rattle.std.proofs.lemmas.List.{length-map, length_push, map-append, map_push}
+use Rattle.std.proofs.Common.{◌≡◌, ℕ, zero, suc, ◌-◌, Bool, true, false, cond, not, ◌||◌, eqb, ltb, List, [], ◌∷◌, ◌++◌, map, length, replicate, Some, None, Option, sym, refl, ap, ◌∙◌, subst}
+use Rattle.std.proofs.lemmas.Bool.{both_ways, not-true, or_left, or_right, or_from, or_parts}
+use Rattle.std.proofs.lemmas.List.{length-map, map-append, map_push}
 use Rattle.elements.specs.declared.row.Row.{Row}
 use Rattle.elements.specs.declared.point.Point.{Point}
 use Rattle.elements.specs.declared.point.Pair.{Pair}
@@ -10,12 +10,12 @@ use Rattle.elements.specs.Rows.{items, room}
 use Rattle.mesh.specs.declared.lists.Lists.{Lists}
 use Rattle.mesh.specs.declared.single.Vertex.{Vertex}
 use Rattle.mesh.specs.Surface.{Surface, Rooms, over, lacks}
-use Rattle.mesh.specs.Lists.{surface, rooms, Spare, Blank, zero_number, zero_point, zero_pair}
-use Rattle.mesh.specs.Single.{Kept, Becomes, Changed, Settles, padded, attached, followed, bits_of, numbered_again, widened}
+use Rattle.mesh.specs.Lists.{surface, rooms, Spare, zero_number, zero_point, zero_pair}
+use Rattle.mesh.specs.Single.{Kept, Becomes, Undisturbed, Changed, Settles, padded, attached, followed, bits_of, numbered_again, widened}
 use Rattle.mesh.proofs.SingleRowFacts.{kept_same, kept_then, row_fits}
 use Rattle.mesh.proofs.SingleSourceFacts.{length_bits}
 
-not-not : (b : Bool) → not (not b) ≡ b
+pub not-not : (b : Bool) → not (not b) ≡ b
 not-not true = refl
 not-not false = refl
 
@@ -25,7 +25,7 @@ module _ {X : Type 0} (bits : X → List ℕ) where
   over_bits : (n : ℕ) (xs : List X) → over n (map bits xs) ≡ over n xs
   over_bits n xs = ap (λ (k : ℕ). ltb n k) (length-map xs bits)
 
-  bits_fit : (r : Row X) → over (room r) (map bits (items r)) ≡ false
+  pub bits_fit : (r : Row X) → over (room r) (map bits (items r)) ≡ false
   bits_fit r = over_bits (room r) (items r) ∙ row_fits r
 
   map-replicate : (n : ℕ) (z : X) → map bits (replicate n z) ≡ replicate n (bits z)
@@ -54,31 +54,31 @@ module _ {X : Type 0} (bits : X → List ℕ) where
 
 -- ---- all lists together
 
-module _ (p q : Lists) (h : Changed p q) where
-  pub changed-rooms : rooms q ≡ rooms p
-  changed-rooms =
-      let a = h.positions.room in let b = h.colours.room in let c = h.textures.room in let d = h.normals.room in let e = h.indices.room in
-      let f = h.same.arities in let g = h.same.colour_indices in let i = h.same.texture_indices in let j = h.same.normal_indices in let k = h.remap in
-      cc
-
-  pub changed-blank : Blank p → Blank q
-  changed-blank b =
-      let P : Row ℕ → Type 0 = Spare zero_number in (
-        (
-          h.positions.spare zero_point b.0.0,
-          h.colours.spare zero_point b.0.1,
-          h.textures.spare zero_pair b.0.2,
-          h.normals.spare zero_point b.0.3,
-          h.indices.spare zero_number b.0.4,
-        ),
-        (
-          subst P (sym h.same.arities) b.1.0,
-          subst P (sym h.same.colour_indices) b.1.1,
-          subst P (sym h.same.texture_indices) b.1.2,
-          subst P (sym h.same.normal_indices) b.1.3,
-          subst P (sym h.remap) b.1.4,
-        ),
-      )
+pub undisturbed : (p q : Lists) → Changed p q → Undisturbed p q
+undisturbed p q h =
+    record {
+      rooms = let a = h.positions.room in let b = h.colours.room in let c = h.textures.room in let d = h.normals.room in let e = h.indices.room in
+          let f = h.same.arities in let g = h.same.colour_indices in let i = h.same.texture_indices in let j = h.same.normal_indices in let k = h.remap in
+          cc;
+      blank = λ b.
+          let P : Row ℕ → Type 0 = Spare zero_number in (
+            (
+              h.positions.spare zero_point b.0.0,
+              h.colours.spare zero_point b.0.1,
+              h.textures.spare zero_pair b.0.2,
+              h.normals.spare zero_point b.0.3,
+              h.indices.spare zero_number b.0.4,
+            ),
+            (
+              subst P (sym h.same.arities) b.1.0,
+              subst P (sym h.same.colour_indices) b.1.1,
+              subst P (sym h.same.texture_indices) b.1.2,
+              subst P (sym h.same.normal_indices) b.1.3,
+              subst P (sym h.remap) b.1.4,
+            ),
+          );
+      remap = h.remap;
+    }
 
 pub changed-same : (p : Lists) → Changed p p
 changed-same p =
@@ -124,9 +124,6 @@ fifth a b c d e f h x =
 second : (a b c : Bool) → a ≡ false → c ≡ false → (a || (b || c)) ≡ b
 second a b c ea ec = rw (ea, ec) (or_false b)
 
-weaker : (a b c : Bool) → (b ≡ true → c ≡ true) → (a || b) ≡ true → (a || c) ≡ true
-weaker a b c f h = ⊎_elim (λ e. or_left a c e) (λ e. or_right a c (f e)) (or_cases a b h)
-
 -- ---- one number more at the end of the indices
 
 lacks_again : (rs : Rooms) (m : Surface) (i : ℕ) → lacks rs m ≡ false → lacks rs (numbered_again m i) ≡ over rs.indices (m.indices ++ i ∷ [])
@@ -134,16 +131,6 @@ lacks_again rs m i h =
     fifth (over rs.positions m.positions) (over rs.colours m.colours) (over rs.textures m.textures) (over rs.normals m.normals)
     (over rs.indices m.indices) (over rs.arities m.arities || (over rs.texture_indices m.texture_indices || over rs.normal_indices m.normal_indices))
     h (over rs.indices (m.indices ++ i ∷ []))
-
-lacks_still : (rs : Rooms) (m : Surface) (i : ℕ) → lacks rs m ≡ true → lacks rs (numbered_again m i) ≡ true
-lacks_still rs m i =
-    let rest = over rs.arities m.arities || (over rs.texture_indices m.texture_indices || over rs.normal_indices m.normal_indices) in
-    weaker (over rs.positions m.positions) _ _ (weaker (over rs.colours m.colours) _ _ (weaker (over rs.textures m.textures) _ _ (weaker (over rs.normals m.normals) _ _
-    (λ h. ⊎_elim
-    (λ e. let n = length_push m.indices i in let o = ltb-true rs.indices (length m.indices) e in
-    or_left (over rs.indices (m.indices ++ i ∷ [])) rest (lt-ltb rs.indices (length (m.indices ++ i ∷ [])) (omega arith)))
-    (λ e. or_right (over rs.indices (m.indices ++ i ∷ [])) rest e)
-    (or_cases (over rs.indices m.indices) rest h)))))
 
 abbrev with_indices : Lists → Row ℕ → Lists
 with_indices q s =
@@ -199,14 +186,10 @@ settles_push p q m i s b h e =
 pub stops : (p q : Lists) (m : Surface) → Changed p q → lacks (rooms p) m ≡ true → Settles p q m false
 stops p q m c h = record { changed = c; tells = sym (ap not h); granted = λ e. absurd (both_ways false refl e) }
 
--- what does not fit does not fit with a number more
-pub settles_still : (p q : Lists) (m : Surface) (i : ℕ) → Settles p q m false → Settles p q (numbered_again m i) false
-settles_still p q m i h = stops p q (numbered_again m i) h.changed (lacks_still (rooms p) m i (not-false (lacks (rooms p) m) (sym h.tells)))
-
 -- ---- what a new number brings
 
 -- a row that was to hold xs, by the bits ys of xs
-by_bits : {X : Type 0} (bits : X → List ℕ) (r s : Row X) (xs : List X) (ys : List (List ℕ)) (b : Bool) → map bits xs ≡ ys → Becomes r s xs b
+pub by_bits : {X : Type 0} (bits : X → List ℕ) (r s : Row X) (xs : List X) (ys : List (List ℕ)) (b : Bool) → map bits xs ≡ ys → Becomes r s xs b
     → (over (room r) ys ≡ not b) × (b ≡ true → map bits (items s) ≡ ys)
 by_bits bits r s xs ys b e h = (
   ap (λ (zs : List (List ℕ)). over (room r) zs) (sym e) ∙ (over_bits bits (room r) xs ∙ (sym (not-not (over (room r) xs)) ∙ sym (ap not h.tells))),

@@ -1,13 +1,13 @@
 -- Rows that grow: what a push leaves, and one after the other.
-use Rattle.std.proofs.Common.{◌≡◌, ℕ, zero, suc, ◌+◌, ◌-◌, ◌≤◌, max, Bool, true, false, not, ◌&&◌, T, eqb, List, [], ◌∷◌, ◌++◌, length, drop, set, replicate, sym, refl, ap, ◌∙◌, subst, ⊎_elim, add-one, arith}
+use Rattle.std.proofs.Common.{◌≡◌, ℕ, zero, suc, ◌+◌, ◌-◌, ◌≤◌, Bool, true, false, not, ◌&&◌, T, eqb, ltb, List, [], ◌∷◌, ◌++◌, length, drop, set, replicate, sym, refl, ap, ◌∙◌, subst, ⊎_elim, add-one, arith}
 use Rattle.std.specs.List.{list_all}
-use Rattle.std.proofs.lemmas.Bool.{cases_lt, lt-ltb, le-ltb, ltb-true, ne_eqb, both_ways, cases_Bool, not-false, cond-false}
-use Rattle.std.proofs.lemmas.List.{append_assoc, append-nil, length_push, length-append, length-replicate, replicate_more}
+use Rattle.std.proofs.lemmas.Bool.{cases_lt, lt-ltb, le-ltb, ne_eqb, cases_Bool, cond-false}
+use Rattle.std.proofs.lemmas.List.{append_assoc, append-nil, length_push, replicate_more}
 use Rattle.elements.specs.declared.row.Row.{Row}
 use Rattle.elements.specs.Rows.{held, items, room, roomy, Pushed}
 use Rattle.elements.proofs.RowFacts.{length-items}
 use Rattle.mesh.specs.Surface.{over}
-use Rattle.mesh.specs.Single.{Kept, Becomes, padded, filled}
+use Rattle.mesh.specs.Single.{Kept, Becomes, padded, filled, placed}
 
 T_right : (a b : Bool) → T (a && b) → T b
 T_right true b h = h
@@ -36,12 +36,13 @@ module _ {X : Type 0} where
             subst P (sym p.cells) (subst Q (sym (p.count ∙ add-one r.count)) (spare-set zero? (held r) r.count x h));
       }
 
+  -- a push leaves the room, and the cells past the list as they were
+  pub kept-push : (r s : Row X) (x : X) (b : Bool) → (b ≡ true → Pushed r s x) → (b ≡ false → s ≡ r) → Kept r s
+  kept-push r s x b grants refuses = ⊎_elim (λ e. kept-pushed r s x (grants e)) (λ e. subst (Kept r) (sym (refuses e)) (kept_same r)) (cases_Bool b)
+
   -- what a row holds fits its room
   pub row_fits : (r : Row X) → over (room r) (items r) ≡ false
   row_fits r = let n = length-items r in let f = r.fits in le-ltb (room r) (length (items r)) (omega arith)
-
-  pub becomes_same : (r : Row X) → Becomes r r (items r) true
-  becomes_same r = record { kept = kept_same r; tells = sym (ap not (row_fits r)); granted = λ _. refl }
 
   -- one element more is too many exactly where no cell is left
   push_tells : (r : Row X) (x : X) → roomy r ≡ not (over (room r) (items r ++ x ∷ []))
@@ -56,7 +57,7 @@ module _ {X : Type 0} where
   pub becomes_push : (r s : Row X) (x : X) (b : Bool) → b ≡ roomy r → (b ≡ true → Pushed r s x) → (b ≡ false → s ≡ r) → Becomes r s (items r ++ x ∷ []) b
   becomes_push r s x b t grants refuses =
       record {
-        kept = ⊎_elim (λ e. kept-pushed r s x (grants e)) (λ e. subst (Kept r) (sym (refuses e)) (kept_same r)) (cases_Bool b);
+        kept = kept-push r s x b grants refuses;
         tells = t ∙ push_tells r x;
         granted = λ e. (grants e).items;
       }
@@ -75,20 +76,7 @@ module _ {X : Type 0} where
       let P : List X → Type 0 = λ zs. Becomes r t (zs ++ x ∷ []) b in
       subst P (a.granted refl) (becomes_then r s t ys (items s ++ x ∷ []) b a (becomes_push s t x b e grants refuses))
 
-  -- what is longer does not fit either
-  pub becomes_longer : (r s : Row X) (ys zs : List X) → length ys ≤ length zs → Becomes r s ys false → Becomes r s zs false
-  becomes_longer r s ys zs l h =
-      let o = ltb-true (room r) (length ys) (not-false (over (room r) ys) (sym h.tells)) in
-      record {
-        kept = h.kept;
-        tells = sym (ap not (lt-ltb (room r) (length zs) (omega arith)));
-        granted = λ e. absurd (both_ways false refl e);
-      }
-
   -- ---- fillers
-
-  pub length-padded : (n : ℕ) (z : X) (xs : List X) → length (padded n z xs) ≡ length xs + (n - length xs)
-  length-padded n z xs = length-append xs (replicate (n - length xs) z) ∙ ap (λ (k : ℕ). length xs + k) (length-replicate (n - length xs) z)
 
   pub padded-none : (n : ℕ) (z : X) (xs : List X) → n ≤ length xs → padded n z xs ≡ xs
   padded-none n z xs l =
@@ -101,15 +89,10 @@ module _ {X : Type 0} where
       append_assoc xs (replicate (n - length xs) z) (z ∷ [])
       ∙ (ap (λ ys. xs ++ ys) (replicate_more (n - length xs) z) ∙ ap (λ (k : ℕ). xs ++ replicate k z) e)
 
-  pub padded_end : (n c : ℕ) (z : X) (xs : List X) → length xs ≤ c → n ≤ c → c ≤ max (length xs) n → padded c z xs ≡ padded n z xs
-  padded_end n c z xs a b l =
-      let e : c - length xs ≡ n - length xs = omega arith in
-      ap (λ (k : ℕ). xs ++ replicate k z) e
-
   -- ---- an element that may be missing
 
   pub filled_more : (z : X) (xs : List X) → (length xs ≡ 0 → ⊥) → filled z xs ≡ xs ++ z ∷ []
   filled_more z xs e = cond-false (eqb (length xs) 0) xs (xs ++ z ∷ []) (ne_eqb (length xs) 0 e)
 
-  pub followed_longer : (xs : List X) (x : X) → length xs ≤ length (xs ++ x ∷ [])
-  followed_longer xs x = let e = length_push xs x in omega arith
+  pub placed_past : (xs : List X) (n : ℕ) (x : X) → length xs ≤ n → placed xs n x ≡ xs ++ x ∷ []
+  placed_past xs n x l = cond-false (ltb n (length xs)) xs (xs ++ x ∷ []) (le-ltb n (length xs) l)

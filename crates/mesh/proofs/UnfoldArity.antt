@@ -1,12 +1,14 @@
 -- One arity more.
-use Rattle.std.proofs.Common.{◌≡◌, ℕ, ◌+◌, ◌<◌, ◌≤◌, Bool, false, cond, ◌||◌, ltb, List, [], ◌∷◌, ◌++◌, map, length, Some, None, Err, sym, refl, ap, ◌∙◌, subst, arith}
+use Rattle.std.proofs.Common.{◌≡◌, ℕ, ◌+◌, ◌<◌, ◌≤◌, Bool, true, false, cond, ◌||◌, ltb, List, [], ◌∷◌, ◌++◌, map, length, Some, None, Ok, Err, Result, is_ok, sym, refl, ap, ◌∙◌, subst, arith}
 use Rattle.std.proofs.lemmas.List.{append-nil, length-map, length_push}
-use Rattle.std.proofs.lemmas.Bool.{le-ltb, lt-ltb}
+use Rattle.std.proofs.lemmas.Bool.{le-ltb, lt-ltb, ltb-true, ltb-false}
+use Rattle.std.specs.Result.{result_or}
+use Rattle.elements.specs.declared.list.Full.{Full}
 use Rattle.elements.specs.declared.row.Row.{Row}
 use Rattle.elements.specs.declared.options.LoadOptions.{LoadOptions}
 use Rattle.elements.specs.declared.error.LoadError.TheVariants.{MeshFull}
 use Rattle.elements.specs.Contents.{Sources}
-use Rattle.elements.specs.Rows.{items, room, Pushed}
+use Rattle.elements.specs.Rows.{items, room, roomy, Pushed}
 use Rattle.elements.proofs.RowFacts.{length-items}
 use Rattle.mesh.specs.declared.lists.Lists.{Lists}
 use Rattle.mesh.specs.Unfold.{Event, arity, corners_of, arities_of}
@@ -14,7 +16,7 @@ use Rattle.mesh.specs.Surface.{Surface, over, lacks}
 use Rattle.mesh.specs.Lists.{surface, rooms, Blank, Spare, zero_number}
 use Rattle.mesh.specs.Numbering.{Keys, numbered, with_arities}
 use Rattle.mesh.specs.Steps.{DrawnOf}
-use Rattle.mesh.specs.Writing.{Stock, Drawn, Kept, Written, Writing}
+use Rattle.mesh.specs.Writing.{Stock, Drawn, Kept, Writing}
 use Rattle.mesh.proofs.SingleListFacts.{or_false}
 use Rattle.mesh.proofs.UnfoldFacts.{corners-append, arities-append}
 use Rattle.mesh.proofs.UnfoldCells.{spare-pushed}
@@ -94,20 +96,25 @@ module _ (o : LoadOptions) (s : Sources) (l : Lists) (t : Stock) (S : Type 0) (k
       }
 
   -- it was written
-  pub arity-written : (r : Row ℕ) → l.face_arities.count < room l.face_arities → Pushed l.face_arities r k → Written o s (arity k ∷ []) l (with_row l r) t t S S
-  arity-written r free p =
+  arity-written : {X : Type 0} (x : X) (r : Row ℕ) → l.face_arities.count < room l.face_arities → Pushed l.face_arities r k → Writing o s (arity k ∷ []) l (with_row l r) t t S S (Ok x)
+  arity-written x r free p =
       record {
         kept = kept_row r p.room (spare-pushed zero_number l.face_arities r k p);
-        wrote = λ _ es d. (
+        writes = λ _ es d. (
           ap (λ b. cond b (Some MeshFull) None) (obstacle o s l k es t.keys d ∙ le-ltb (room l.face_arities) (l.face_arities.count + 1) (omega arith)),
           drawn-more o s l k es t.keys d r p,
         );
       }
 
   -- there was no cell for it
-  pub arity-refused : {X : Type 0} (r : Row ℕ) → room l.face_arities ≤ l.face_arities.count → r ≡ l.face_arities → Writing o s (arity k ∷ []) l (with_row l r) t t S S {X = X} (Err MeshFull)
+  arity-refused : {X : Type 0} (r : Row ℕ) → room l.face_arities ≤ l.face_arities.count → r ≡ l.face_arities → Writing o s (arity k ∷ []) l (with_row l r) t t S S {X = X} (Err MeshFull)
   arity-refused r full e =
       record {
         kept = kept_row r (ap room e) (λ h. let P : Row ℕ → Type 0 = λ x. Spare zero_number x in subst P (sym e) h);
         writes = λ _ es d. ap (λ b. cond b (Some MeshFull) None) (obstacle o s l k es t.keys d ∙ lt-ltb (room l.face_arities) (l.face_arities.count + 1) (omega arith));
       }
+
+  pub arity-pushed : (q : Result (Unit {0}) Full) (r : Row ℕ) → is_ok q ≡ roomy l.face_arities → (is_ok q ≡ true → Pushed l.face_arities r k) → (is_ok q ≡ false → r ≡ l.face_arities)
+      → Writing o s (arity k ∷ []) l (with_row l r) t t S S (result_or q (Err MeshFull))
+  arity-pushed (Ok x) r tells granted refused = arity-written x r (ltb-true _ _ (sym tells)) (granted refl)
+  arity-pushed (Err e) r tells granted refused = arity-refused r (ltb-false _ _ (sym tells)) (refused refl)

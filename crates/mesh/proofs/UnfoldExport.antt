@@ -1,5 +1,5 @@
 -- From written events to the outcome of an export.
-use Rattle.std.proofs.Common.{◌≡◌, ℕ, ◌-◌, Bool, true, false, cond, ◌&&◌, List, [], ◌++◌, map, length, Some, None, Ok, Err, filter, Result, sym, refl, ap, ◌∙◌, subst, arith}
+use Rattle.std.proofs.Common.{◌≡◌, ℕ, ◌-◌, Bool, true, false, cond, ◌&&◌, List, [], ◌++◌, map, length, Some, None, Ok, Err, filter, sym, refl, ap, ◌∙◌, subst, arith}
 use Rattle.std.proofs.lemmas.List.{length-map}
 use Rattle.elements.specs.declared.corner.VertexIndices.{VertexIndices}
 use Rattle.elements.specs.declared.options.LoadOptions.{LoadOptions}
@@ -20,7 +20,7 @@ use Rattle.mesh.specs.Numbering.{some, element, v_of, one, Keys, coloured, corne
 use Rattle.mesh.specs.Merging.{merged, merge_checks}
 use Rattle.mesh.specs.Merges.{Within, Mergeable}
 use Rattle.mesh.specs.Rules.{all_three, trimmed, unmerged, all_checks, verdict}
-use Rattle.mesh.specs.Writing.{Stock, no_keys, Drawn, Written, Writing, Merging}
+use Rattle.mesh.specs.Writing.{Stock, no_keys, Drawn, Writing, Merging}
 use Rattle.mesh.specs.Outcome.{Trimmed, Finishing, Filling}
 use Rattle.mesh.proofs.UnfoldFacts.{first_pass, first_stop}
 use Rattle.mesh.proofs.UnfoldCells.{items-none, spare-cleared}
@@ -30,15 +30,6 @@ use Rattle.mesh.proofs.UnfoldWaiting.{count_both}
 -- ---- trimming
 
 module _ (l : Lists) where
-  same : cond (all_three (items l.face_arities)) [] (items l.face_arities) ≡ items l.face_arities → Trimmed l l
-  same e = record { surface = ap (λ ns. with_arities ns (surface l)) (sym e); rooms = refl; remap = refl; blank = λ b. b }
-
-  pub trimmed-none : l.face_arities.count ≡ 0 → Trimmed l l
-  trimmed-none z = let e = items-none l.face_arities z in same (ap (λ ns. cond (all_three ns) [] ns) e ∙ sym e)
-
-  pub trimmed_other : all_three (items l.face_arities) ≡ false → Trimmed l l
-  trimmed_other e = same (ap (λ b. cond b [] (items l.face_arities)) e)
-
   pub trimmed-three : (r : Row ℕ) → all_three (items l.face_arities) ≡ true → r.count ≡ 0 → room r ≡ room l.face_arities → held r ≡ blanked (held l.face_arities) 0 → Trimmed l (with_row l r)
   trimmed-three r e z n cells =
       record {
@@ -133,25 +124,14 @@ trimmed_mergeable m h = record { indices = h.indices; textures = h.textures; nor
 
 -- ---- trimming and merging
 
-module _ (o : LoadOptions) (l l₁ l₂ : Lists) (t t₂ : Stock) (S S₂ : Type 0) (trim : Trimmed l l₁) where
-  pub finishing_plain : {X : Type 0} (x : X) → o.merge_identical_points ≡ false → Finishing o l l₁ t t S S (Ok x)
-  finishing_plain x e =
+module _ {o : LoadOptions} {l l₁ l₂ : Lists} {t t₂ : Stock} {S S₂ : Type 0} {X Y : Type 0} {x : X} (y : Y) (e : o.merge_identical_points ≡ true) (trim : Trimmed l l₁) (m : Merging l₁ l₂ t t₂ S S₂ (Ok x)) where
+  pub finishing_merged : Finishing o l l₂ t t₂ S S₂ (Ok y)
+  finishing_merged =
       record {
-        refused = sym (ap (λ b. first (cond b (merge_checks (rooms l) t.capacities (surface l)) [])) e);
-        granted = λ _. trim.surface ∙ sym (ap (λ b. cond b (merged (trimmed (surface l))) (trimmed (surface l))) e);
-        rooms = trim.rooms;
-        remap = λ z. ap (λ (r : Row ℕ). r.count) trim.remap ∙ z;
-        blank = trim.blank;
-        keys = refl;
-        none = λ a b. (a, b);
-        capacities = refl;
-        sound = λ h. h;
-      }
-
-  pub finishing_merged : {X : Type 0} (r : Result X LoadError) → o.merge_identical_points ≡ true → Merging l₁ l₂ t t₂ S S₂ r → Finishing o l l₂ t t₂ S S₂ r
-  finishing_merged (Ok x) e m =
-      record {
-        refused = m.refused ∙ checks;
+        refused = m.refused
+            ∙ (ap (λ rs. first (merge_checks rs t.capacities (surface l₁))) trim.rooms
+            ∙ (ap (λ x. first (merge_checks (rooms l) t.capacities x)) trim.surface
+            ∙ sym (ap (λ b. first (cond b (merge_checks (rooms l) t.capacities (surface l)) [])) e)));
         granted = λ h. m.granted (subst Mergeable (sym trim.surface) (trimmed_mergeable (surface l) h))
             ∙ (ap merged trim.surface ∙ sym (ap (λ b. cond b (merged (trimmed (surface l))) (trimmed (surface l))) e));
         rooms = m.rooms ∙ trim.rooms;
@@ -162,30 +142,6 @@ module _ (o : LoadOptions) (l l₁ l₂ : Lists) (t t₂ : Stock) (S S₂ : Type
         capacities = m.capacities;
         sound = m.sound;
       }
-    where
-      checks : first (merge_checks (rooms l₁) t.capacities (surface l₁)) ≡ first (cond o.merge_identical_points (merge_checks (rooms l) t.capacities (surface l)) [])
-      checks =
-          ap (λ rs. first (merge_checks rs t.capacities (surface l₁))) trim.rooms
-          ∙ (ap (λ x. first (merge_checks (rooms l) t.capacities x)) trim.surface
-          ∙ sym (ap (λ b. first (cond b (merge_checks (rooms l) t.capacities (surface l)) [])) e))
-  finishing_merged (Err x) e m =
-      record {
-        refused = m.refused ∙ checks;
-        granted = λ _. tt;
-        rooms = m.rooms ∙ trim.rooms;
-        remap = λ z. m.remap;
-        blank = λ b. m.blank (trim.blank b);
-        keys = m.keys;
-        none = λ a b. m.none;
-        capacities = m.capacities;
-        sound = m.sound;
-      }
-    where
-      checks : first (merge_checks (rooms l₁) t.capacities (surface l₁)) ≡ first (cond o.merge_identical_points (merge_checks (rooms l) t.capacities (surface l)) [])
-      checks =
-          ap (λ rs. first (merge_checks rs t.capacities (surface l₁))) trim.rooms
-          ∙ (ap (λ x. first (merge_checks (rooms l) t.capacities x)) trim.surface
-          ∙ sym (ap (λ b. first (cond b (merge_checks (rooms l) t.capacities (surface l)) [])) e))
 
 -- ---- the verdict
 
@@ -195,10 +151,6 @@ module _ (o : LoadOptions) (c : Contents) (rs : Rooms) (n : Capacities) where
   verdict_valid e =
       ap (λ b. cond b (Some InvalidLoadOptionConfig) (first (all_checks o c.sources rs n (events o c.waiting) ++ cond o.merge_identical_points (merge_checks rs n (unmerged o c)) []))) e
 
-  verdict_invalid : (o.single_index && o.merge_identical_points) ≡ true → verdict o c rs n ≡ Some InvalidLoadOptionConfig
-  verdict_invalid e =
-      ap (λ b. cond b (Some InvalidLoadOptionConfig) (first (all_checks o c.sources rs n (events o c.waiting) ++ cond o.merge_identical_points (merge_checks rs n (unmerged o c)) []))) e
-
   verdict_stopped : (o.single_index && o.merge_identical_points) ≡ false → (e : LoadError) → first (all_checks o c.sources rs n (events o c.waiting)) ≡ Some e → verdict o c rs n ≡ Some e
   verdict_stopped v e h = verdict_valid v ∙ first_stop (all_checks o c.sources rs n (events o c.waiting)) (cond o.merge_identical_points (merge_checks rs n (unmerged o c)) []) e h
 
@@ -206,83 +158,72 @@ module _ (o : LoadOptions) (c : Contents) (rs : Rooms) (n : Capacities) where
       → verdict o c rs n ≡ first (cond o.merge_identical_points (merge_checks rs n (unmerged o c)) [])
   verdict_passed v h = verdict_valid v ∙ first_pass (all_checks o c.sources rs n (events o c.waiting)) (cond o.merge_identical_points (merge_checks rs n (unmerged o c)) []) h
 
-module _ (o : LoadOptions) (c : Contents) (l : Lists) (t : Stock) (S : Type 0) where
-  pub filling_invalid : (o.single_index && o.merge_identical_points) ≡ true → Filling o c l l t t S S (Err InvalidLoadOptionConfig)
-  filling_invalid e =
+-- what was written from lists and tables that were empty
+module _ (o : LoadOptions) (c : Contents) (l l₁ : Lists) (t t₁ : Stock) (S S₁ : Type 0) (n : ℕ)
+    (valid : (o.single_index && o.merge_identical_points) ≡ false) (w : Writing o c.sources (events o c.waiting) l l₁ t t₁ S S₁ (Ok n))
+    (h : S) (m : surface l ≡ empty_surface) (ks : t.keys ≡ no_keys) where
+  passed : (first (all_checks o c.sources (rooms l) t.capacities (events o c.waiting)) ≡ None) × Drawn o c.sources (events o c.waiting) (surface l₁) t₁.keys
+  passed = w.writes h [] (drawn-none o c.sources (surface l) t.keys m ks)
+
+  drawn_is : surface l₁ ≡ unmerged o c
+  drawn_is = passed.1.surface
+
+  fit : Mergeable (surface l₁)
+  fit = drawn_mergeable c.sources (arities_of (events o c.waiting)) (corners_of (events o c.waiting)) o (surface l₁) drawn_is
+
+  last-checks : first (cond o.merge_identical_points (merge_checks (rooms l₁) t₁.capacities (surface l₁)) []) ≡ verdict o c (rooms l) t.capacities
+  last-checks =
+      ap (λ x. first (cond o.merge_identical_points (merge_checks x t₁.capacities (surface l₁)) [])) w.kept.rooms
+      ∙ (ap (λ x. first (cond o.merge_identical_points (merge_checks (rooms l) x (surface l₁)) [])) w.kept.capacities
+      ∙ (ap (λ x. first (cond o.merge_identical_points (merge_checks (rooms l) t.capacities x) [])) drawn_is
+      ∙ sym (verdict_passed o c (rooms l) t.capacities valid passed.0)))
+
+module _ {o : LoadOptions} {c : Contents} {l : Lists} {t : Stock} {S : Type 0} (valid : (o.single_index && o.merge_identical_points) ≡ false) {l₁ : Lists} {t₁ : Stock} {S₁ : Type 0} where
+  pub filling_stopped : {e : LoadError} → Writing o c.sources (events o c.waiting) l l₁ t t₁ S S₁ {X = ℕ} (Err e) → Filling o c l l₁ t t₁ S S₁ (Err e)
+  filling_stopped {e} w =
+      let k = w.kept in
       record {
-        refused = λ _ _ _. sym (verdict_invalid o c (rooms l) t.capacities e);
+        refused = λ h m ks. sym (verdict_stopped o c (rooms l) t.capacities valid e (w.writes h [] (drawn-none o c.sources (surface l) t.keys m ks)));
         made = λ _ _ _. tt;
-        rooms = refl;
-        remap = λ z. z;
-        blank = λ b. b;
-        none = λ a b. (a, b);
-        capacities = refl;
-        sound = λ h. h;
+        rooms = k.rooms;
+        remap = λ z. ap (λ (r : Row ℕ). r.count) k.remap ∙ z;
+        blank = k.blank;
+        none = λ a b. (k.points ∙ a, k.pairs ∙ b);
+        capacities = k.capacities;
+        sound = k.sound;
       }
 
-  module _ (valid : (o.single_index && o.merge_identical_points) ≡ false) where
-    pub filling_stopped : {X : Type 0} (l₁ : Lists) (t₁ : Stock) (S₁ : Type 0) (e : LoadError) → Writing o c.sources (events o c.waiting) l l₁ t t₁ S S₁ {X = X} (Err e) → Filling o c l l₁ t t₁ S S₁ (Err e)
-    filling_stopped l₁ t₁ S₁ e w =
+  module _ {l₂ : Lists} {t₂ : Stock} {S₂ : Type 0} {n : ℕ} {X : Type 0} (w : Writing o c.sources (events o c.waiting) l l₁ t t₁ S S₁ (Ok n)) where
+    pub filling_refused : {e : LoadError} → Finishing {X = X} o l₁ l₂ t₁ t₂ S₁ S₂ (Err e) → Filling o c l l₂ t t₂ S S₂ (Err e)
+    filling_refused f =
         let k = w.kept in
         record {
-          refused = λ h m ks. sym (verdict_stopped o c (rooms l) t.capacities valid e (w.writes h [] (drawn-none o c.sources (surface l) t.keys m ks)));
+          refused = λ h m ks. f.refused ∙ last-checks o c l l₁ t t₁ S S₁ n valid w h m ks;
           made = λ _ _ _. tt;
-          rooms = k.rooms;
-          remap = λ z. ap (λ (r : Row ℕ). r.count) k.remap ∙ z;
-          blank = k.blank;
-          none = λ a b. (k.points ∙ a, k.pairs ∙ b);
-          capacities = k.capacities;
-          sound = k.sound;
+          rooms = f.rooms ∙ k.rooms;
+          remap = λ z. f.remap (ap (λ (r : Row ℕ). r.count) k.remap ∙ z);
+          blank = λ b. f.blank (k.blank b);
+          none = λ a b. f.none (k.points ∙ a) (k.pairs ∙ b);
+          capacities = f.capacities ∙ k.capacities;
+          sound = λ h. f.sound (k.sound h);
         }
 
-    module _ (l₁ l₂ : Lists) (t₁ t₂ : Stock) (S₁ S₂ : Type 0) (w : Written o c.sources (events o c.waiting) l l₁ t t₁ S S₁) where
-      module _ (h : S) (m : surface l ≡ empty_surface) (ks : t.keys ≡ no_keys) where
-        passed : (first (all_checks o c.sources (rooms l) t.capacities (events o c.waiting)) ≡ None) × Drawn o c.sources (events o c.waiting) (surface l₁) t₁.keys
-        passed = w.wrote h [] (drawn-none o c.sources (surface l) t.keys m ks)
-
-        drawn_is : surface l₁ ≡ unmerged o c
-        drawn_is = passed.1.surface
-
-        fit : Mergeable (surface l₁)
-        fit = drawn_mergeable c.sources (arities_of (events o c.waiting)) (corners_of (events o c.waiting)) o (surface l₁) drawn_is
-
-        last-checks : first (cond o.merge_identical_points (merge_checks (rooms l₁) t₁.capacities (surface l₁)) []) ≡ verdict o c (rooms l) t.capacities
-        last-checks =
-            ap (λ x. first (cond o.merge_identical_points (merge_checks x t₁.capacities (surface l₁)) [])) w.kept.rooms
-            ∙ (ap (λ x. first (cond o.merge_identical_points (merge_checks (rooms l) x (surface l₁)) [])) w.kept.capacities
-            ∙ (ap (λ x. first (cond o.merge_identical_points (merge_checks (rooms l) t.capacities x) [])) drawn_is
-            ∙ sym (verdict_passed o c (rooms l) t.capacities valid passed.0)))
-
-      pub filling_refused : {X : Type 0} (e : LoadError) → Finishing {X = X} o l₁ l₂ t₁ t₂ S₁ S₂ (Err e) → Filling o c l l₂ t t₂ S S₂ (Err e)
-      filling_refused e f =
-          let k = w.kept in
-          record {
-            refused = λ h m ks. f.refused ∙ last-checks h m ks;
-            made = λ _ _ _. tt;
-            rooms = f.rooms ∙ k.rooms;
-            remap = λ z. f.remap (ap (λ (r : Row ℕ). r.count) k.remap ∙ z);
-            blank = λ b. f.blank (k.blank b);
-            none = λ a b. f.none (k.points ∙ a) (k.pairs ∙ b);
-            capacities = f.capacities ∙ k.capacities;
-            sound = λ h. f.sound (k.sound h);
-          }
-
-      pub filling_granted : {X : Type 0} (x : X) (n all : ℕ) → n ≡ length (filter (wanted o) c.waiting) → length c.waiting ≡ all → Finishing o l₁ l₂ t₁ t₂ S₁ S₂ (Ok x) → Filling o c l l₂ t t₂ S S₂ (Ok (n, all - n))
-      filling_granted x n all e a f =
-          let k = w.kept in
-          let both = count_both o c.waiting in
-          let rest : all - n ≡ length (filter (skips o) c.waiting) = omega arith in
-          record {
-            refused = λ h m ks. f.refused ∙ last-checks h m ks;
-            made = λ h m ks. (
-              f.granted (fit h m ks) ∙ ap (λ x. cond o.merge_identical_points (merged (trimmed x)) (trimmed x)) (drawn_is h m ks),
-              f.keys ∙ (passed h m ks).1.keys,
-              (e, rest),
-            );
-            rooms = f.rooms ∙ k.rooms;
-            remap = λ z. f.remap (ap (λ (r : Row ℕ). r.count) k.remap ∙ z);
-            blank = λ b. f.blank (k.blank b);
-            none = λ a b. f.none (k.points ∙ a) (k.pairs ∙ b);
-            capacities = f.capacities ∙ k.capacities;
-            sound = λ h. f.sound (k.sound h);
-          }
+    pub filling_granted : {x : X} {all : ℕ} → n ≡ length (filter (wanted o) c.waiting) → length c.waiting ≡ all → Finishing o l₁ l₂ t₁ t₂ S₁ S₂ (Ok x) → Filling o c l l₂ t t₂ S S₂ (Ok (n, all - n))
+    filling_granted {all} e a f =
+        let k = w.kept in
+        let both = count_both o c.waiting in
+        let rest : all - n ≡ length (filter (skips o) c.waiting) = omega arith in
+        record {
+          refused = λ h m ks. f.refused ∙ last-checks o c l l₁ t t₁ S S₁ n valid w h m ks;
+          made = λ h m ks. (
+            f.granted (fit o c l l₁ t t₁ S S₁ n valid w h m ks) ∙ ap (λ x. cond o.merge_identical_points (merged (trimmed x)) (trimmed x)) (drawn_is o c l l₁ t t₁ S S₁ n valid w h m ks),
+            f.keys ∙ (passed o c l l₁ t t₁ S S₁ n valid w h m ks).1.keys,
+            (e, rest),
+          );
+          rooms = f.rooms ∙ k.rooms;
+          remap = λ z. f.remap (ap (λ (r : Row ℕ). r.count) k.remap ∙ z);
+          blank = λ b. f.blank (k.blank b);
+          none = λ a b. f.none (k.points ∙ a) (k.pairs ∙ b);
+          capacities = f.capacities ∙ k.capacities;
+          sound = λ h. f.sound (k.sound h);
+        }

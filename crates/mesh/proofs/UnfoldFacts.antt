@@ -6,18 +6,17 @@ use Rattle.std.proofs.lemmas.Result.{MatchResult-weaker}
 use Rattle.elements.specs.declared.corner.VertexIndices.{VertexIndices}
 use Rattle.elements.specs.declared.options.LoadOptions.{LoadOptions}
 use Rattle.elements.specs.declared.error.LoadError.{LoadError}
-use Rattle.elements.specs.declared.error.LoadError.TheVariants.{InvalidPolygon}
 use Rattle.elements.specs.Checks.{first}
 use Rattle.elements.specs.Contents.{Sources}
 use Rattle.elements.specs.First.{distinct}
 use Rattle.mesh.specs.declared.lists.Lists.{Lists}
-use Rattle.mesh.specs.Unfold.{Event, corner, no_corner, corner_in, arity_in, corners_of, arities_of}
+use Rattle.mesh.specs.Unfold.{Event, corner, corner_in, arity_in, corners_of, arities_of}
 use Rattle.mesh.specs.Surface.{Surface, Rooms, Capacities}
 use Rattle.mesh.specs.Lists.{surface, rooms}
 use Rattle.mesh.specs.Numbering.{Keys, corner_keys, single, multi, single_keys, multi_keys, with_arities}
 use Rattle.mesh.specs.Rules.{single_checks, multi_checks, corner_checks, checks, checks_after}
 use Rattle.mesh.specs.Steps.{DrawnOf, AddsSingle, AddsMulti, Adds}
-use Rattle.mesh.specs.Writing.{Stock, Drawn, Wrote, Stopped, Kept, Written, Writing}
+use Rattle.mesh.specs.Writing.{Stock, Drawn, Wrote, Stopped, Kept, Writing}
 
 -- ---- the first check that holds
 
@@ -143,7 +142,7 @@ module _ (o : LoadOptions) (s : Sources) (rs rs' : Rooms) (n n' : Capacities) (f
   stopped_at e a b w = subst (λ x. Stopped o s x n' fs m ks e) a (subst (λ x. Stopped o s rs x fs m ks e) b w)
 
 module _ {l₀ l₁ l₂ : Lists} {t₀ t₁ t₂ : Stock} {S₀ S₁ S₂ : Type 0} where
-  pub kept_then : Kept l₀ l₁ t₀ t₁ S₀ S₁ → Kept l₁ l₂ t₁ t₂ S₁ S₂ → Kept l₀ l₂ t₀ t₂ S₀ S₂
+  kept_then : Kept l₀ l₁ t₀ t₁ S₀ S₁ → Kept l₁ l₂ t₁ t₂ S₁ S₂ → Kept l₀ l₂ t₀ t₂ S₀ S₂
   kept_then a b =
       record {
         rooms = b.rooms ∙ a.rooms;
@@ -155,52 +154,31 @@ module _ {l₀ l₁ l₂ : Lists} {t₀ t₁ t₂ : Stock} {S₀ S₁ S₂ : Typ
         sound = λ h. b.sound (a.sound h);
       }
 
-  module _ {o : LoadOptions} {s : Sources} {fs gs : List Event} where
-    pub written_then : Written o s fs l₀ l₁ t₀ t₁ S₀ S₁ → Written o s gs l₁ l₂ t₁ t₂ S₁ S₂ → Written o s (fs ++ gs) l₀ l₂ t₀ t₂ S₀ S₂
-    written_then a b =
-        record {
-          kept = kept_then a.kept b.kept;
-          wrote = λ h. wrote_then o s (rooms l₀) t₀.capacities (surface l₀) t₀.keys fs gs (surface l₁) (surface l₂) t₁.keys t₂.keys (a.wrote h)
-              (wrote_at o s (rooms l₁) (rooms l₀) t₁.capacities t₀.capacities gs (surface l₁) t₁.keys (surface l₂) t₂.keys a.kept.rooms a.kept.capacities (b.wrote (a.kept.sound h)));
-        }
-
-    -- events that were written, and a call that was to write more
-    pub writing_then : {X : Type 0} (r : Result X LoadError) → Written o s fs l₀ l₁ t₀ t₁ S₀ S₁ → Writing o s gs l₁ l₂ t₁ t₂ S₁ S₂ r → Writing o s (fs ++ gs) l₀ l₂ t₀ t₂ S₀ S₂ r
+  -- events that were written, and a call that was to write more
+  module _ {o : LoadOptions} {s : Sources} {fs gs : List Event} {X Y : Type 0} {x : X} where
+    pub writing_then : (r : Result Y LoadError) → Writing o s fs l₀ l₁ t₀ t₁ S₀ S₁ (Ok x) → Writing o s gs l₁ l₂ t₁ t₂ S₁ S₂ r → Writing o s (fs ++ gs) l₀ l₂ t₀ t₂ S₀ S₂ r
     writing_then r a b =
         record {
           kept = kept_then a.kept b.kept;
           writes = λ h. MatchResult-weaker r (b.writes (a.kept.sound h))
-              (λ _ w. wrote_then o s (rooms l₀) t₀.capacities (surface l₀) t₀.keys fs gs (surface l₁) (surface l₂) t₁.keys t₂.keys (a.wrote h)
+              (λ _ w. wrote_then o s (rooms l₀) t₀.capacities (surface l₀) t₀.keys fs gs (surface l₁) (surface l₂) t₁.keys t₂.keys (a.writes h)
               (wrote_at o s (rooms l₁) (rooms l₀) t₁.capacities t₀.capacities gs (surface l₁) t₁.keys (surface l₂) t₂.keys a.kept.rooms a.kept.capacities w))
-              (λ e w. stopped_later o s (rooms l₀) t₀.capacities (surface l₀) t₀.keys fs gs (surface l₁) t₁.keys e (a.wrote h)
+              (λ e w. stopped_later o s (rooms l₀) t₀.capacities (surface l₀) t₀.keys fs gs (surface l₁) t₁.keys e (a.writes h)
               (stopped_at o s (rooms l₁) (rooms l₀) t₁.capacities t₀.capacities gs (surface l₁) t₁.keys e a.kept.rooms a.kept.capacities w));
         }
 
-module _ {l l' : Lists} {t t' : Stock} {S S' : Type 0} {o : LoadOptions} {s : Sources} {fs : List Event} where
-  pub written_writing : {X : Type 0} (x : X) → Written o s fs l l' t t' S S' → Writing o s fs l l' t t' S S' (Ok x)
-  written_writing x a = record { kept = a.kept; writes = a.wrote }
-
-  pub writing_written : {X : Type 0} (x : X) → Writing o s fs l l' t t' S S' (Ok x) → Written o s fs l l' t t' S S'
-  writing_written x a = record { kept = a.kept; wrote = a.writes }
+module _ {l l' : Lists} {t t' : Stock} {S S' : Type 0} {o : LoadOptions} {s : Sources} {fs : List Event} {X Y : Type 0} where
+  pub writing_ok : {x : X} (y : Y) → Writing o s fs l l' t t' S S' (Ok x) → Writing o s fs l l' t t' S S' (Ok y)
+  writing_ok y a = record { kept = a.kept; writes = a.writes }
 
   -- a refusal stays the first, whatever was to come after it
-  pub writing_stop : {X Y : Type 0} (e : LoadError) (gs : List Event) → Writing o s fs l l' t t' S S' {X = X} (Err e) → Writing o s (fs ++ gs) l l' t t' S S' {X = Y} (Err e)
+  pub writing_stop : (e : LoadError) (gs : List Event) → Writing o s fs l l' t t' S S' {X = X} (Err e) → Writing o s (fs ++ gs) l l' t t' S S' {X = Y} (Err e)
   writing_stop e gs a =
       record { kept = a.kept; writes = λ h. stopped_before o s (rooms l) t.capacities (surface l) t.keys fs gs e (a.writes h) }
 
-  pub written_as : (gs : List Event) → fs ≡ gs → Written o s fs l l' t t' S S' → Written o s gs l l' t t' S S'
-  written_as gs e a = subst (λ xs. Written o s xs l l' t t' S S') e a
-
-  pub writing_as : {X : Type 0} (r : Result X LoadError) (gs : List Event) → fs ≡ gs → Writing o s fs l l' t t' S S' r → Writing o s gs l l' t t' S S' r
-  writing_as r gs e a = subst (λ xs. Writing o s xs l l' t t' S S' r) e a
-
-module _ (o : LoadOptions) (s : Sources) (l : Lists) (t : Stock) (S : Type 0) where
-  pub kept_same : Kept l l t t S S
-  kept_same = record { rooms = refl; remap = refl; blank = λ h. h; capacities = refl; points = refl; pairs = refl; sound = λ h. h }
-
-  pub written_none : Written o s [] l l t t S S
-  written_none = record { kept = kept_same; wrote = λ _. wrote_none o s (rooms l) t.capacities (surface l) t.keys }
-
-  -- a face without corners, where triangles are asked for
-  pub writing_no_corner : {X : Type 0} → Writing o s (no_corner ∷ []) l l t t S S {X = X} (Err InvalidPolygon)
-  writing_no_corner = record { kept = kept_same; writes = λ _ es d. refl }
+pub writing_none : {X : Type 0} (x : X) {o : LoadOptions} {s : Sources} {l : Lists} {t : Stock} {S : Type 0} → Writing o s [] l l t t S S (Ok x)
+writing_none x {o} {s} {l} {t} =
+    record {
+      kept = record { rooms = refl; remap = refl; blank = λ h. h; capacities = refl; points = refl; pairs = refl; sound = λ h. h };
+      writes = λ _. wrote_none o s (rooms l) t.capacities (surface l) t.keys;
+    }

@@ -13,5 +13,6 @@ pub mod Merges
 pub mod MergeLaws
 pub mod Ways
 pub mod Writing
+pub mod Writes
 pub mod Outcome
 pub mod Promises

@@ -3,18 +3,19 @@
 --   through ms n     what stands at n in ms; n itself where ms ends before
 --   looked_up ms ns  each of ns becomes that
 --   too_many k xs    the refusal of a table with room for k keys, if xs has more different elements
+--   most l           how many elements the longest of the lists l has that are merged
 --   bit_checks       what stands in the way of merging each list, where p and q are the tables' capacities
 --   Steady b r s     s has the room of r, and if the cells past the list of r are zero by some test that b passes, so are those past that of s
 --   Cut r s n b      s is the first n elements of r; b fills the cells of the others
---   Stirred r s      s has the count and the room of r, and the cells past its list are zero if those of r are
 --   FirstsKept       the first occurrences close up at the front of the cells, and each element has its number
 --   RowsMerged       a list of elements without repeats, and its numbers with it
 --   Mergeable m      what holds of a mesh whose attributes are numbered apart: every number names an element of its list, colours stand
 --                    beside positions, and have no numbers of their own yet
 --   AllSteady p q    the rows of a mesh are steady, where p and q are blanks, and the arities are the same
 --   TablesFor n p q  the capacities n say how many points and how many pairs fit their tables: p and q
+--   Fresh            a table that is sound and holds no key, and an empty list of numbers with room for n
 --   Emptied          a table that is sound, holds no key, and has room for as many as before
-use Rattle.std.specs.Prelude.{◌≡◌, ℕ, ◌<◌, ◌≤◌, Bool, true, List, [], ◌∷◌, map, length, take, Option, slice_index, slice_index_or}
+use Rattle.std.specs.Prelude.{◌≡◌, ℕ, ◌<◌, ◌≤◌, max, Bool, true, List, [], ◌∷◌, map, length, take, Option, slice_index, slice_index_or}
 use Rattle.elements.specs.declared.point.Point.{Point}
 use Rattle.elements.specs.declared.point.Pair.{Pair}
 use Rattle.elements.specs.declared.row.Row.{Row}
@@ -34,11 +35,14 @@ Within n ns = (i : ℕ) → i < length ns → slice_index ns i < n
 abbrev pub through : List ℕ → ℕ → ℕ
 through ms n = slice_index_or ms n n
 
-unfoldable pub looked_up : List ℕ → List ℕ → List ℕ
+abbrev pub looked_up : List ℕ → List ℕ → List ℕ
 looked_up ms ns = map (through ms) ns
 
 abbrev pub too_many : ℕ → List (List ℕ) → Option LoadError
 too_many k xs = first ((over k (distinct xs), TableFull) ∷ [])
+
+abbrev pub most : Lists → ℕ
+most l = max l.positions.count (max l.vertex_color.count (max l.normals.count l.texcoords.count))
 
 abbrev pub bit_checks : ℕ → ℕ → Surface → List (Bool × LoadError)
 bit_checks p q m =
@@ -57,12 +61,6 @@ module _ {X : Type 0} where
     pub count : s.count ≡ n
     pub items : items s ≡ take n (items r)
     pub steady : Steady b r s
-
-  -- s is r with other elements among the same cells
-  pub record Stirred (r s : Row X) : Type 0 where
-    pub count : s.count ≡ r.count
-    pub room : room s ≡ room r
-    pub spare : (zero? : X → Bool) → Spare zero? r → Spare zero? s
 
 module _ {E : Type 0} (meaning : E → List ℕ) where
   -- of the elements xs: their first occurrences are the first `kept` of the cells ys, and ns are the numbers of all of xs
@@ -98,6 +96,12 @@ pub record AllSteady (p : Point) (q : Pair) (a b : Lists) : Type 0 where
 pub record TablesFor (n : Capacities) (p q : ℕ) : Type 0 where
   pub points : n.points ≡ p
   pub pairs : n.pairs ≡ q
+
+pub record Fresh (Sound : Type 0) (keys : List (List ℕ)) (r : Row ℕ) (n : ℕ) : Type 0 where
+  pub sound : Sound
+  pub none : keys ≡ []
+  pub start : r.count ≡ 0
+  pub room : n ≤ room r
 
 pub record Emptied (Sound : Type 0) (keys : List (List ℕ)) (before after : ℕ) : Type 0 where
   pub sound : Sound

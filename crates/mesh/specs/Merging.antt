@@ -1,7 +1,7 @@
 -- Merging elements that agree bit for bit.
 --   renumbered xs ns   each number becomes the place that its element of xs has among the distinct ones
 --   merged m           every list of elements without repeats, and its numbers with it; colours get numbers of their own first
-use Rattle.std.specs.Prelude.{ℕ, max, Bool, cond, ◌&&◌, ◌||◌, List, [], ◌∷◌, map, length, nat_lt, slice_index_or}
+use Rattle.std.specs.Prelude.{ℕ, max, Bool, if◌then◌else◌, ◌&&◌, ◌||◌, List, [], ◌∷◌, map, length, nat_lt, slice_index_or}
 use Rattle.elements.specs.declared.error.LoadError.{LoadError}
 use Rattle.elements.specs.declared.error.LoadError.TheVariants.{TableFull, MeshFull}
 use Rattle.elements.specs.First.{distinct, place}
@@ -20,7 +20,7 @@ merged m =
       normals = distinct m.normals;
       indices = renumbered m.positions m.indices;
       arities = m.arities;
-      colour_indices = cond (some m.colours) (renumbered m.colours m.indices) [];
+      colour_indices = (if some m.colours then renumbered m.colours m.indices else []);
       texture_indices = renumbered m.textures m.texture_indices;
       normal_indices = renumbered m.normals m.normal_indices;
     }

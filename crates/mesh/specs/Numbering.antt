@@ -6,7 +6,7 @@
 --   numbered o s cs  the one of these two that the options ask for
 --   keyed o s cs     the keys that the tables hold then
 --   drawn o s es     the mesh of the events es
-use Rattle.std.specs.Prelude.{ℕ, Bool, false, cond, not, ◌&&◌, ◌||◌, List, [], ◌∷◌, map, length, ◌==◌, nat_lt, slice_index, slice_index_or}
+use Rattle.std.specs.Prelude.{ℕ, Bool, false, if◌then◌else◌, not, ◌&&◌, ◌||◌, List, [], ◌∷◌, map, length, ◌==◌, nat_lt, slice_index, slice_index_or}
 use Rattle.elements.specs.declared.corner.VertexIndices.{VertexIndices}
 use Rattle.elements.specs.declared.options.LoadOptions.{LoadOptions}
 use Rattle.elements.specs.Contents.{Sources}
@@ -48,15 +48,15 @@ any_named xs ref (k ∷ ks) = names xs (ref k) || any_named xs ref ks
 
 -- the key's element, or the filler that holds its place
 abbrev pub named_or : List ℕ → List (List ℕ) → (List ℕ → ℕ) → List ℕ → List ℕ
-named_or filler xs ref k = cond (names xs (ref k)) (element xs (ref k)) filler
+named_or filler xs ref k = if names xs (ref k) then element xs (ref k) else filler
 
 -- nothing where no key asks for an element, else one for each key
 abbrev pub with_fillers : List ℕ → List (List ℕ) → (List ℕ → ℕ) → List (List ℕ) → List (List ℕ)
-with_fillers filler xs ref ks = cond (any_named xs ref ks) (map (named_or filler xs ref) ks) []
+with_fillers filler xs ref ks = if any_named xs ref ks then map (named_or filler xs ref) ks else []
 
 -- the colours of the keys, if there are colours
 abbrev pub coloured : List (List ℕ) → List (List ℕ) → List (List ℕ)
-coloured xs ks = cond (some xs) (map (λ k. element xs (v_of k)) ks) []
+coloured xs ks = if some xs then map (λ k. element xs (v_of k)) ks else []
 
 abbrev pub single_of : Sources → List (List ℕ) → List (List ℕ) → Surface
 single_of s ks ms =
@@ -87,7 +87,7 @@ position_refs cs = map (λ c. c.v) cs
 -- a missing reference is the one before it again, which is r at the start
 abbrev pub carried : ℕ → List ℕ → List ℕ
 carried r [] = []
-carried r (x ∷ xs) = cond (x == missing) (r ∷ carried r xs) (x ∷ carried x xs)
+carried r (x ∷ xs) = if x == missing then r ∷ carried r xs else x ∷ carried x xs
 
 abbrev pub texture_refs : List VertexIndices → List ℕ
 texture_refs cs = carried 0 (map (λ c. c.vt) cs)
@@ -97,13 +97,13 @@ normal_refs cs = carried 0 (map (λ c. c.vn) cs)
 
 -- the keys of the references rs to elements of xs, the elements that they name, and the numbers of the references: nothing where there are no elements
 abbrev pub ref_keys : List (List ℕ) → List ℕ → List (List ℕ)
-ref_keys xs rs = cond (some xs) (distinct (map one rs)) []
+ref_keys xs rs = if some xs then distinct (map one rs) else []
 
 abbrev pub picked : List (List ℕ) → List ℕ → List (List ℕ)
 picked xs rs = map (λ k. element xs (v_of k)) (ref_keys xs rs)
 
 abbrev pub ref_numbers : List (List ℕ) → List ℕ → List ℕ
-ref_numbers xs rs = cond (some xs) (numbers (map one rs)) []
+ref_numbers xs rs = if some xs then numbers (map one rs) else []
 
 abbrev pub multi : Sources → List VertexIndices → Surface
 multi s cs =
@@ -140,10 +140,10 @@ multi_keys s cs =
     }
 
 abbrev pub keyed : LoadOptions → Sources → List VertexIndices → Keys
-keyed o s cs = cond o.single_index (single_keys cs) (multi_keys s cs)
+keyed o s cs = if o.single_index then single_keys cs else multi_keys s cs
 
 abbrev pub numbered : LoadOptions → Sources → List VertexIndices → Surface
-numbered o s cs = cond o.single_index (single s cs) (multi s cs)
+numbered o s cs = if o.single_index then single s cs else multi s cs
 
 abbrev pub with_arities : List ℕ → Surface → Surface
 with_arities ns m =

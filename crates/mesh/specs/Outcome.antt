@@ -3,14 +3,12 @@
 --   Zeros l         every cell of the lists is zero
 --   Cleared m       no element in any list of the mesh, no material, and zero in every cell
 --   rooms_of c      the rooms of a mesh over the cells c
---   Unused l        no element in any of the lists, and zero in every cell
---   Clearing        the lists l were cleared, and became l'
 --   Trimmed         arities that say no more than that every face has three corners were left out
 --   Made            the mesh and the keys of a granted export, and how many faces it wrote and skipped
 --   Finishing       the arities were trimmed, and the mesh merged where that is asked for
 --   Filling         the waiting faces were written into lists and tables that were empty, and the mesh was finished
 --   Exported        all that an export does: when it is refused, and what it leaves
-use Rattle.std.specs.Prelude.{◌≡◌, ℕ, Bool, cond, T, [], length, IfOk, IfErr, None, vec_items, filter, Option, Result, MatchResult, OnOk}
+use Rattle.std.specs.Prelude.{◌≡◌, ℕ, Bool, if◌then◌else◌, T, [], length, IfOk, IfErr, None, vec_items, filter, Option, Result, MatchResult, OnOk}
 use Rattle.std.specs.List.{list_all}
 use Rattle.elements.specs.declared.row.Row.{Row}
 use Rattle.elements.specs.declared.options.LoadOptions.{LoadOptions}
@@ -60,19 +58,6 @@ rooms_of c =
       remap = room_of (length (vec_items c.remap));
     }
 
-pub record Unused (l : Lists) : Type 0 where
-  pub none : surface l ≡ empty_surface
-  pub remap : l.remap.count ≡ 0
-  pub blank : Blank l
-  pub zeros : Zeros l
-
-pub record Clearing (l l' : Lists) : Type 0 where
-  pub none : surface l' ≡ empty_surface
-  pub remap : l'.remap.count ≡ 0
-  pub rooms : rooms l' ≡ rooms l
-  pub blank : Blank l → Blank l'
-  pub zeros : Blank l → Zeros l'
-
 pub record Trimmed (l l' : Lists) : Type 0 where
   pub surface : surface l' ≡ trimmed (surface l)
   pub rooms : rooms l' ≡ rooms l
@@ -88,8 +73,8 @@ Made o c m ks r =
     (λ _. Unit {0})
 
 pub record Finishing {X : Type 0} (o : LoadOptions) (l l' : Lists) (t t' : Stock) (S S' : Type 0) (r : Result X LoadError) : Type 0 where
-  pub refused : refusal r ≡ first (cond o.merge_identical_points (merge_checks (rooms l) t.capacities (surface l)) [])
-  pub granted : Mergeable (surface l) → OnOk r (surface l' ≡ cond o.merge_identical_points (merged (trimmed (surface l))) (trimmed (surface l)))
+  pub refused : refusal r ≡ first (if o.merge_identical_points then merge_checks (rooms l) t.capacities (surface l) else [])
+  pub granted : Mergeable (surface l) → OnOk r (surface l' ≡ (if o.merge_identical_points then merged (trimmed (surface l)) else trimmed (surface l)))
   pub rooms : rooms l' ≡ rooms l
   pub remap : l.remap.count ≡ 0 → l'.remap.count ≡ 0
   pub blank : Blank l → Blank l'

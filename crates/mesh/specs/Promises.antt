@@ -8,7 +8,7 @@
 --   MeshPromise          one number for each corner, no point unused, read-back, sharing and fewest points
 --   ArityPromise         the arities tell how many corners each written one of the faces fs has
 --   Promises             both hold of every granted export
-use Rattle.std.specs.Prelude.{◌≡◌, ℕ, ◌+◌, ◌*◌, ◌<◌, ◌≤◌, true, false, cond, List, [], ◌∷◌, map, length, get_or, None, filter, slice_index, slice_index_or}
+use Rattle.std.specs.Prelude.{◌≡◌, ℕ, ◌+◌, ◌*◌, ◌<◌, ◌≤◌, true, false, if◌then◌else◌, List, [], ◌∷◌, map, length, None, filter, slice_index, slice_index_or}
 use Rattle.elements.specs.declared.corner.VertexIndices.{VertexIndices}
 use Rattle.elements.specs.declared.options.LoadOptions.{LoadOptions}
 use Rattle.elements.specs.Contents.{Sources, Contents}
@@ -28,20 +28,20 @@ meant s cs = map (λ c. element s.positions c.v) cs
 
 -- the numbers by which corners read textures, normals and colours
 abbrev pub texture_numbers : LoadOptions → Surface → List ℕ
-texture_numbers o m = cond o.single_index m.indices m.texture_indices
+texture_numbers o m = if o.single_index then m.indices else m.texture_indices
 
 abbrev pub normal_numbers : LoadOptions → Surface → List ℕ
-normal_numbers o m = cond o.single_index m.indices m.normal_indices
+normal_numbers o m = if o.single_index then m.indices else m.normal_indices
 
 abbrev pub colour_numbers : LoadOptions → Surface → List ℕ
-colour_numbers o m = cond o.merge_identical_points m.colour_indices m.indices
+colour_numbers o m = if o.merge_identical_points then m.colour_indices else m.indices
 
 pub record Reads (ys : List (List ℕ)) (r : ℕ) (xs : List (List ℕ)) (ns : List ℕ) (i : ℕ) : Type 0 where
   -- r names an element of ys
   pub there : r < length ys
   -- there is a number at i, and it is the place of an element of xs
   pub numbered : i < length ns
-  pub within : get_or ns i 0 < length xs
+  pub within : slice_index ns i < length xs
   -- which has the same bits
   pub same : element xs (slice_index ns i) ≡ element ys r
 

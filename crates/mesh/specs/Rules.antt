@@ -6,7 +6,8 @@
 --   all_checks o s rs n es  those of the events es, one after the other
 --   verdict                 why an export is refused, or none
 --   finished                the mesh of a granted one
-use Rattle.std.specs.Prelude.{ℕ, Bool, true, cond, ◌&&◌, List, [], ◌∷◌, ◌++◌, length, Option, ◌==◌, nat_le}
+use Rattle.std.specs.Prelude.{ℕ, Bool, true, if◌then◌else◌, ◌&&◌, List, [], ◌∷◌, ◌++◌, length, Option, ◌==◌, nat_le}
+use Rattle.std.specs.List.{list_all}
 use Rattle.elements.specs.declared.corner.VertexIndices.{VertexIndices}
 use Rattle.elements.specs.declared.options.LoadOptions.{LoadOptions}
 use Rattle.elements.specs.declared.error.LoadError.{LoadError}
@@ -49,7 +50,7 @@ module _ (s : Sources) (rs : Rooms) (n : Capacities) (ns : List ℕ) (cs : List 
 
 module _ (o : LoadOptions) (s : Sources) (rs : Rooms) (n : Capacities) where
   abbrev pub corner_checks : List ℕ → List VertexIndices → VertexIndices → List (Bool × LoadError)
-  corner_checks ns cs c = cond o.single_index (single_checks s rs n ns cs c) (multi_checks s rs n ns cs c)
+  corner_checks ns cs c = if o.single_index then single_checks s rs n ns cs c else multi_checks s rs n ns cs c
 
   abbrev pub arity_checks : List ℕ → List VertexIndices → ℕ → List (Bool × LoadError)
   arity_checks ns cs k = (lacks rs (with_arities (ns ++ k ∷ []) (numbered o s cs)), MeshFull) ∷ []
@@ -69,12 +70,11 @@ module _ (o : LoadOptions) (s : Sources) (rs : Rooms) (n : Capacities) where
 
 -- every face has three corners
 abbrev pub all_three : List ℕ → Bool
-all_three [] = true
-all_three (n ∷ ns) = n == 3 && all_three ns
+all_three ns = list_all (λ n. n == 3) ns
 
 -- arities that say no more than that are left out
 abbrev pub trimmed : Surface → Surface
-trimmed m = with_arities (cond (all_three m.arities) [] m.arities) m
+trimmed m = with_arities (if all_three m.arities then [] else m.arities) m
 
 -- the mesh of the waiting faces before anything is merged
 abbrev pub unmerged : LoadOptions → Contents → Surface
@@ -84,10 +84,10 @@ abbrev pub export_checks : LoadOptions → Contents → Rooms → Capacities →
 export_checks o c rs n =
     (o.single_index && o.merge_identical_points, InvalidLoadOptionConfig)
     ∷ (all_checks o c.sources rs n (events o c.waiting)
-    ++ cond o.merge_identical_points (merge_checks rs n (unmerged o c)) [])
+    ++ (if o.merge_identical_points then merge_checks rs n (unmerged o c) else []))
 
 abbrev pub verdict : LoadOptions → Contents → Rooms → Capacities → Option LoadError
 verdict o c rs n = first (export_checks o c rs n)
 
 abbrev pub finished : LoadOptions → Contents → Surface
-finished o c = cond o.merge_identical_points (merged (trimmed (unmerged o c))) (trimmed (unmerged o c))
+finished o c = if o.merge_identical_points then merged (trimmed (unmerged o c)) else trimmed (unmerged o c)

@@ -1,8 +1,8 @@
 -- One kind of elements, numbered by reference as the corners of a mesh name them.
 --   last_or r rs      the last of the references rs, or r where there is none
 --   meant rs r        the reference that r stands for after rs: itself, or the one before it again where it is missing
---   ByReference      an element is known by its reference
---   ByNumber         it is known by its place among the distinct references
+--   ByReference       an element is known by its reference
+--   ByNumber          it is known by its place among the distinct references
 --   Names             what a corner names among the elements xs, where its reference stands for m
 --   Found             the element that stands at a place
 --   lost              a reference asks for an element that is not there
@@ -11,14 +11,15 @@
 --   Keeps             what entering leaves of a table
 --   Takes             what entering does, from any references that the table's keys were made of
 --   Enters            what entering one key does
---   Placed            the element of a number was added, unless the list reached that number
 --   Written           whether the lists took it
-use Rattle.std.specs.Prelude.{◌≡◌, ℕ, ◌<◌, ◌≤◌, Bool, true, false, cond, not, ◌&&◌, ◌||◌, List, [], ◌∷◌, ◌++◌, map, length, Some, None, Option, MatchOption, ◌==◌, nat_le, nat_lt, slice_index_or}
+--   Writes            the same, from any references that the lists were made of
+use Rattle.std.specs.Prelude.{◌≡◌, ℕ, ◌<◌, ◌≤◌, Bool, true, false, if◌then◌else◌, not, ◌&&◌, ◌||◌, List, [], ◌∷◌, ◌++◌, map, length, Some, None, Option, MatchOption, ◌==◌, nat_le, nat_lt, slice_index_or}
 use Rattle.elements.specs.Corners.{missing}
-use Rattle.elements.specs.First.{distinct, place, has, Absent}
+use Rattle.elements.specs.First.{distinct, place, has}
 use Rattle.elements.specs.declared.row.Row.{Row}
-use Rattle.elements.specs.Rows.{items, roomy, Pushed}
-use Rattle.mesh.specs.Entering.{Placed as Taken}
+use Rattle.elements.specs.Rows.{items, room}
+use Rattle.tables.specs.Tables.{Fit, Entering}
+use Rattle.tables.specs.declared.table.CornerTable.{Ghosts}
 use Rattle.tables.specs.declared.key.Reference.{Reference}
 use Rattle.mesh.specs.declared.stream.Named.{Named}
 use Rattle.mesh.specs.declared.stream.Named.TheVariants.{Nothing, Again, Element}
@@ -30,7 +31,7 @@ last_or r [] = r
 last_or r (x ∷ xs) = last_or x xs
 
 abbrev pub meant : List ℕ → ℕ → ℕ
-meant rs r = cond (r == missing) (last_or 0 rs) r
+meant rs r = if r == missing then last_or 0 rs else r
 
 abbrev pub ByReference : List ℕ → ℕ → Reference → Type 0
 ByReference rs m k = k.at ≡ m
@@ -62,12 +63,11 @@ Found xs at Nothing = ⊥
 Found xs at (Again n) = ⊥
 Found xs at (Element k x) = (at < length xs) × (k.at ≡ at) × (x ≡ slice_index_or xs at x)
 
--- the row a became b, and t was answered
-pub record Placed {T : Type 0} (a b : Row T) (n : ℕ) (x : T) (t : Bool) : Type 0 where
-  pub old : n < a.count → (t ≡ true) × (b ≡ a)
-  pub new : a.count ≤ n → t ≡ roomy a
-  pub pushed : a.count ≤ n → t ≡ true → Pushed a b x
-  pub refused : t ≡ false → b ≡ a
+-- lists a and b, which were to have what k names and its number, became a' and b', and t was answered
+abbrev pub Writes : {T : Type 0} → Row T → Row ℕ → Named ℕ T → Row T → Row ℕ → Bool → Type 0
+Writes {T} a b k a' b' t =
+    (bits : T → List ℕ) (xs : List (List ℕ)) (rs : List ℕ) (m : ℕ) → map bits (items a) ≡ picked xs rs → items b ≡ ref_numbers xs rs → Names bits xs rs m ByNumber k →
+    Written bits xs rs m (room a) (room b) (map bits (items a')) (items b') t
 
 -- a reference to the elements of a asks for one that is not there
 abbrev pub lost : {T : Type 0} → Row T → ℕ → Bool
@@ -80,16 +80,17 @@ LookedUp {T} a b r (Some n) =
     (lost a r ≡ false)
     × ((bits : T → List ℕ) (rs : List ℕ) → items b ≡ ref_numbers (map bits (items a)) rs → Names bits (map bits (items a)) rs (meant rs r) ByReference n)
 
--- a table that is sound if S, with room for n and the keys ks, became one that is sound if S', with room for n' and the keys ks'
-pub record Keeps (S S' : Type 0) (n n' : ℕ) (ks ks' : List (List ℕ)) : Type 0 where
-  pub capacity : n' ≡ n
-  pub sound : S → S'
-  pub within : S → length ks ≤ n → length ks' ≤ n'
+-- a table with the words T, where t became t'
+module _ {X K : Type 0} (T : Ghosts X K) where
+  pub record Keeps (t t' : X) : Type 0 where
+    pub capacity : T.capacity t' ≡ T.capacity t
+    pub sound : T.sound t → T.sound t'
+    pub within : T.sound t → length (T.keys t) ≤ T.capacity t → length (T.keys t') ≤ T.capacity t'
 
-module _ (S : Type 0) (n : ℕ) (ks ks' : List (List ℕ)) where
-  abbrev pub Enters : List ℕ → Option ℕ → Type 0
-  Enters m o = S → MatchOption o (Absent m ks × (length ks ≡ n) × (ks' ≡ ks)) (λ i. Taken m ks ks' i)
+  abbrev pub Enters : X → X → List ℕ → Option ℕ → Type 0
+  Enters t t' m o = T.sound t → Fit (T.capacity t') (T.keys t') × Entering (T.capacity t) m (T.keys t) (T.keys t') o
 
-  abbrev pub Takes : {T : Type 0} → Named Reference T → Option (Named ℕ T) → Type 0
-  Takes {T} k o =
-      S → length ks ≤ n → (bits : T → List ℕ) (xs : List (List ℕ)) (rs : List ℕ) (m : ℕ) → ks ≡ ref_keys xs rs → Names bits xs rs m ByReference k → Entered bits xs rs m n ks' o
+  abbrev pub Takes : {E : Type 0} → X → X → Named Reference E → Option (Named ℕ E) → Type 0
+  Takes {E} t t' k o =
+      T.sound t → length (T.keys t) ≤ T.capacity t → (bits : E → List ℕ) (xs : List (List ℕ)) (rs : List ℕ) (m : ℕ) →
+      T.keys t ≡ ref_keys xs rs → Names bits xs rs m ByReference k → Entered bits xs rs m (T.capacity t) (T.keys t') o

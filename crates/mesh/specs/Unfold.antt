@@ -7,7 +7,7 @@
 --   events o fs      those of the faces fs, in order
 --   corners_of es    the corners among events
 --   arities_of es    the arities among events
-use Rattle.std.specs.Prelude.{ℕ, Bool, cond, not, ◌&&◌, ◌||◌, List, [], ◌∷◌, ◌++◌, map, length, filter, ◌==◌}
+use Rattle.std.specs.Prelude.{ℕ, Bool, if◌then◌else◌, not, ◌&&◌, ◌||◌, List, [], ◌∷◌, ◌++◌, map, length, filter, ◌==◌}
 use Rattle.std.specs.List.{flat_map}
 use Rattle.elements.specs.declared.corner.VertexIndices.{VertexIndices}
 use Rattle.elements.specs.declared.options.LoadOptions.{LoadOptions}
@@ -41,7 +41,7 @@ fanned [] = no_corner ∷ []
 fanned (c ∷ cs) = map corner (triangles (c ∷ cs))
 
 abbrev pub face_events : LoadOptions → List VertexIndices → List Event
-face_events o f = cond o.triangulate (fanned f) (map corner f ++ arity (length f) ∷ [])
+face_events o f = if o.triangulate then fanned f else map corner f ++ arity (length f) ∷ []
 
 abbrev pub events : LoadOptions → List (List VertexIndices) → List Event
 events o fs = flat_map (face_events o) (filter (wanted o) fs)

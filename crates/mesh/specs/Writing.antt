@@ -4,7 +4,6 @@
 --   Wrote        the events fs were written after those, and none of them met an obstacle
 --   Stopped      some of the events fs meets an obstacle after those, and the first brings the refusal e
 --   Kept         what no writing changes
---   Written      the events fs were written
 --   Writing      what a call did that was to write the events fs and answered r
 --   Merging      what a call did that was to merge a mesh and answered r
 use Rattle.std.specs.Prelude.{◌≡◌, ℕ, List, [], ◌++◌, Some, None, Result, MatchResult, OnOk}
@@ -58,10 +57,6 @@ pub record Kept (l l' : Lists) (t t' : Stock) (S S' : Type 0) : Type 0 where
   pub sound : S → S'
 
 module _ (o : LoadOptions) (s : Sources) (fs : List Event) (l l' : Lists) (t t' : Stock) (S S' : Type 0) where
-  pub record Written : Type 0 where
-    pub kept : Kept l l' t t' S S'
-    pub wrote : S → Wrote o s (rooms l) t.capacities fs (surface l) t.keys (surface l') t'.keys
-
   pub record Writing {X : Type 0} (r : Result X LoadError) : Type 0 where
     pub kept : Kept l l' t t' S S'
     pub writes : S → MatchResult r

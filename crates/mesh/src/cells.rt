@@ -1,6 +1,7 @@
 use elements::point::{Pair, Point};
 
 // The memory that a mesh is made over: the cells of each of its lists.
+// kept: the fields of `Lists` again, since no type parameter stands for the kind of a list, `Vec` here and `Row` there.
 #[derive(Drop)]
 pub struct Cells {
     pub positions: Vec<Point>,

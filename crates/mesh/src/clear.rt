@@ -1,6 +1,7 @@
 ghost use Rattle.std.specs.Prelude.{◌≡◌};
-ghost use Rattle.mesh.specs.Lists.{rooms};
-ghost use Rattle.mesh.specs.Outcome.{Cleared, Clearing};
+ghost use Rattle.mesh.specs.Surface.{empty_surface};
+ghost use Rattle.mesh.specs.Lists.{surface, rooms, Blank};
+ghost use Rattle.mesh.specs.Outcome.{Cleared, Zeros};
 
 use crate::lists::Lists;
 use crate::mesh::Mesh;
@@ -13,22 +14,28 @@ impl Mesh {
         ensures rooms { rooms self.new.lists ≡ rooms self.old.lists }
     {
         self.material_id = None;
-        clear_lists(&mut self.lists);
+        self.lists.clear();
     }
 }
 
-// No element in any list, and zero in every cell.
-fn clear_lists(lists: &mut Lists)
-    ensures { Clearing lists.old lists.new }
-{
-    lists.positions.clear(Point::ZERO);
-    lists.vertex_color.clear(Point::ZERO);
-    lists.texcoords.clear(Pair::ZERO);
-    lists.normals.clear(Point::ZERO);
-    lists.indices.clear(0);
-    lists.face_arities.clear(0);
-    lists.vertex_color_indices.clear(0);
-    lists.texcoord_indices.clear(0);
-    lists.normal_indices.clear(0);
-    lists.remap.clear(0);
+impl Lists {
+    // No element in any list, and zero in every cell.
+    #[tactic(auto, using(elements::proofs::ZeroFacts::zero_is))]
+    pub(crate) fn clear(&mut self)
+        ensures none { surface self.new ≡ empty_surface }
+        ensures remap { self.new.remap.count ≡ 0 }
+        ensures rooms { rooms self.new ≡ rooms self.old }
+        ensures zeros { Blank self.old → Zeros self.new × Blank self.new }
+    {
+        self.positions.clear(Point::ZERO);
+        self.vertex_color.clear(Point::ZERO);
+        self.texcoords.clear(Pair::ZERO);
+        self.normals.clear(Point::ZERO);
+        self.indices.clear(0);
+        self.face_arities.clear(0);
+        self.vertex_color_indices.clear(0);
+        self.texcoord_indices.clear(0);
+        self.normal_indices.clear(0);
+        self.remap.clear(0);
+    }
 }

@@ -7,7 +7,7 @@ use crate::lists::Lists;
 use crate::mesh::Mesh;
 use crate::numbering::Numbering;
 use crate::trim::trim_arities;
-use crate::unfold::write_faces;
+use crate::unfold::Writer;
 use elements::attributes::Attributes;
 use elements::error::LoadError;
 use elements::options::LoadOptions;
@@ -27,6 +27,7 @@ pub fn export<N: Numbering>(
 {
     mesh.clear();
     tables.empty_all();
+    // kept: a match and no `?`, since a refusal clears what was written
     match fill(attributes, waiting, options, &mut mesh.lists, tables) {
         Ok(counts) => {
             mesh.material_id = material;
@@ -53,15 +54,15 @@ fn fill<N: Numbering>(
     if !options.is_valid() {
         return Err(LoadError::InvalidLoadOptionConfig);
     }
-    match write_faces(options, lists, tables, attributes, waiting) {
-        Ok(written) => {
-            if let Err(error) = finish(options, lists, tables) {
-                return Err(error);
-            }
-            Ok((written, waiting.faces.count - written))
-        }
-        Err(error) => Err(error),
-    }
+    let mut writer = Writer {
+        options,
+        attributes,
+        lists,
+        tables,
+    };
+    let written = writer.write_faces(waiting)?;
+    finish(options, lists, tables)?;
+    Ok((written, waiting.faces.len() - written))
 }
 
 // Leaves needless arities out, and merges if that is asked for.
@@ -73,8 +74,8 @@ fn finish<N: Numbering>(
     ensures { Finishing options lists.old lists.new (N.Numbering.stock tables.old) (N.Numbering.stock tables.new) (N.Numbering.sound tables.old) (N.Numbering.sound tables.new) result }
 {
     trim_arities(lists);
-    if !options.merge_identical_points {
-        return Ok(());
+    if options.merge_identical_points {
+        tables.merge(lists)?;
     }
-    tables.merge(lists)
+    Ok(())
 }

@@ -2,7 +2,6 @@
 
 pub mod cells;
 pub(crate) mod clear;
-pub(crate) mod enter;
 pub mod export;
 pub mod lists;
 pub(crate) mod merge;

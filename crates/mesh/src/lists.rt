@@ -2,6 +2,8 @@ use elements::point::{Pair, Point};
 use elements::row::Row;
 
 // The lists of a mesh.
+// kept: numbers beside elements, as users of tobj know a mesh. That every cell past a list is zero is said of `Mesh` and not here, since
+// `Numbering::add_corner` takes any lists.
 #[derive(Drop)]
 pub struct Lists {
     pub positions: Row<Point>,

@@ -1,12 +1,11 @@
-ghost use Rattle.std.specs.Prelude.{◌≡◌, ◌<◌, ◌≤◌, max, true, ◌&&◌, ◌||◌, [], is_ok, nat_lt};
+ghost use Rattle.std.specs.Prelude.{◌≡◌, ◌<◌, ◌≤◌, true, ◌&&◌, ◌||◌, is_ok, nat_lt};
 ghost use Rattle.elements.specs.Bits.{point_bits, pair_bits};
 ghost use Rattle.elements.specs.Checks.{refusal, first};
 ghost use Rattle.elements.specs.Rows.{items, room};
-ghost use Rattle.mesh.specs.Surface.{over, Capacities};
+ghost use Rattle.mesh.specs.Surface.{Capacities};
 ghost use Rattle.mesh.specs.Lists.{surface, rooms, Blank};
-ghost use Rattle.mesh.specs.Numbering.{some};
-ghost use Rattle.mesh.specs.Merging.{longest, merged, merge_checks};
-ghost use Rattle.mesh.specs.Merges.{Steady, AllSteady, RowsMerged, Mergeable, TablesFor, Emptied, bit_checks};
+ghost use Rattle.mesh.specs.Merging.{merged, merge_checks};
+ghost use Rattle.mesh.specs.Merges.{most, bit_checks, Fresh, Emptied, Steady, AllSteady, RowsMerged, Mergeable, TablesFor};
 
 use crate::lists::Lists;
 use crate::merge::{merge_identical_points, shorten};
@@ -16,6 +15,7 @@ use elements::row::Row;
 use tables::table::CornerTable;
 
 // Merges each list of elements and its numbers, colours first, which get numbers of their own for that.
+#[tactic(auto, using(elements::proofs::ZeroFacts::zero_is))]
 pub(crate) fn merge_points<Qt: CornerTable<Point>, Rt: CornerTable<Pair>>(
     lists: &mut Lists,
     points: &mut Qt,
@@ -44,6 +44,7 @@ pub(crate) fn merge_points<Qt: CornerTable<Point>, Rt: CornerTable<Pair>>(
 }
 
 // The four lists, one after the other.
+// kept: four calls, since their order is that of the refusals; the blanks are parameters, so that no step asks for the bits of a zero.
 fn merge_lists<Qt: CornerTable<Point>, Rt: CornerTable<Pair>>(
     lists: &mut Lists,
     points: &mut Qt,
@@ -51,10 +52,8 @@ fn merge_lists<Qt: CornerTable<Point>, Rt: CornerTable<Pair>>(
     point: Point,
     pair: Pair,
 ) -> Result<(), LoadError>
-    requires points { Qt.CornerTable.sound points.old × (Qt.CornerTable.keys points.old ≡ []) }
-    requires pairs { Rt.CornerTable.sound pairs.old × (Rt.CornerTable.keys pairs.old ≡ []) }
-    requires start { lists.old.remap.count ≡ 0 }
-    requires room { max lists.old.positions.count (max lists.old.vertex_color.count (max lists.old.normals.count lists.old.texcoords.count)) ≤ room lists.old.remap }
+    requires points { Fresh (Qt.CornerTable.sound points.old) (Qt.CornerTable.keys points.old) lists.old.remap (most lists.old) }
+    requires pairs { Fresh (Rt.CornerTable.sound pairs.old) (Rt.CornerTable.keys pairs.old) lists.old.remap (most lists.old) }
     ensures colours { is_ok result ≡ true → RowsMerged point_bits lists.old.vertex_color lists.new.vertex_color lists.old.vertex_color_indices lists.new.vertex_color_indices }
     ensures positions { is_ok result ≡ true → RowsMerged point_bits lists.old.positions lists.new.positions lists.old.indices lists.new.indices }
     ensures normals { is_ok result ≡ true → RowsMerged point_bits lists.old.normals lists.new.normals lists.old.normal_indices lists.new.normal_indices }
@@ -97,7 +96,7 @@ fn merge_lists<Qt: CornerTable<Point>, Rt: CornerTable<Pair>>(
 
 // Whether the remap list is too short for a list that is to be merged, or the colours' numbers would not fit.
 fn lacks_cells(lists: &Lists) -> bool
-    ensures { result ≡ (nat_lt (rooms lists.now).remap (longest (surface lists.now)) || some (surface lists.now).colours && over (rooms lists.now).colour_indices (surface lists.now).indices) }
+    ensures { result ≡ (nat_lt (room lists.now.remap) (most lists.now) || nat_lt 0 lists.now.vertex_color.count && nat_lt (room lists.now.vertex_color_indices) lists.now.indices.count) }
 {
     lists.remap.room() < longest_list(lists)
         || lists.vertex_color.count > 0 && lists.vertex_color_indices.room() < lists.indices.count
@@ -105,14 +104,10 @@ fn lacks_cells(lists: &Lists) -> bool
 
 // How many elements the longest of the lists that are merged has.
 fn longest_list(lists: &Lists) -> usize
-    ensures { result ≡ max lists.now.positions.count (max lists.now.vertex_color.count (max lists.now.normals.count lists.now.texcoords.count)) }
+    ensures { result ≡ most lists.now }
 {
-    lists.positions.count.max(
-        lists
-            .vertex_color
-            .count
-            .max(lists.normals.count.max(lists.texcoords.count)),
-    )
+    let points = lists.positions.count.max(lists.vertex_color.count);
+    points.max(lists.normals.count).max(lists.texcoords.count)
 }
 
 // Where there are colours, their numbers are those of the positions, until they are merged.
@@ -122,19 +117,11 @@ fn number_colours(colours: &Row<Point>, indices: &Row<u32>, colour_indices: &mut
     ensures none { colours.now.count ≤ 0 → items colour_indices.new ≡ items colour_indices.old }
     ensures steady { Steady 0 colour_indices.old colour_indices.new }
 {
-    if colours.count > 0 {
-        copy_numbers(indices, colour_indices);
+    if colours.count == 0 {
+        return;
     }
-}
-
-// The same numbers, in the other row's cells.
-fn copy_numbers(from: &Row<u32>, to: &mut Row<u32>)
-    requires { from.now.count ≤ room to.old }
-    ensures items { items to.new ≡ items from.now }
-    ensures steady { Steady 0 to.old to.new }
-{
-    shorten(to, 0, 0);
-    for at in 0..from.count {
-        to.push(from.cells[at]);
+    shorten(colour_indices, 0, 0);
+    for number in indices.as_slice() {
+        colour_indices.push(*number).unwrap();
     }
 }

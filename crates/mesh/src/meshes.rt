@@ -1,14 +1,13 @@
-ghost use Rattle.std.specs.Prelude.{◌≡◌, length, replicate};
+ghost use Rattle.std.specs.Prelude.{◌≡◌, Bool, length};
 ghost use Rattle.elements.specs.Cells.{room_of as most_of};
-ghost use Rattle.elements.specs.Rows.{held};
-ghost use Rattle.mesh.specs.Lists.{rooms};
-ghost use Rattle.mesh.specs.Outcome.{Cleared, Unused, rooms_of};
+ghost use Rattle.elements.specs.Rows.{room};
+ghost use Rattle.mesh.specs.Lists.{rooms, Blank, Spare};
+ghost use Rattle.mesh.specs.Outcome.{Cleared, rooms_of};
 
 use crate::cells::Cells;
 use crate::lists::Lists;
 use crate::mesh::Mesh;
 use elements::list::MOST;
-use elements::point::{Pair, Point};
 use elements::row::Row;
 
 impl Mesh {
@@ -17,8 +16,10 @@ impl Mesh {
         ensures cleared { Cleared result }
         ensures rooms { rooms result.lists ≡ rooms_of cells }
     {
+        let mut lists = full_lists(cells);
+        lists.clear();
         Mesh {
-            lists: blank_lists(cells),
+            lists,
             material_id: None,
         }
     }
@@ -38,45 +39,31 @@ impl Mesh {
     }
 }
 
-// Empty lists over these cells, with zero in each.
-fn blank_lists(cells: Cells) -> Lists
-    ensures unused { Unused result }
+// Lists that take all the cells that they have room for, with whatever these hold.
+fn full_lists(cells: Cells) -> Lists
+    ensures blank { Blank result }
     ensures rooms { rooms result ≡ rooms_of cells }
 {
-    let Cells {
-        positions,
-        vertex_color,
-        texcoords,
-        normals,
-        indices,
-        face_arities,
-        vertex_color_indices,
-        texcoord_indices,
-        normal_indices,
-        remap,
-    } = cells;
     Lists {
-        positions: blank_row(positions, Point::ZERO),
-        vertex_color: blank_row(vertex_color, Point::ZERO),
-        texcoords: blank_row(texcoords, Pair::ZERO),
-        normals: blank_row(normals, Point::ZERO),
-        indices: blank_row(indices, 0),
-        face_arities: blank_row(face_arities, 0),
-        vertex_color_indices: blank_row(vertex_color_indices, 0),
-        texcoord_indices: blank_row(texcoord_indices, 0),
-        normal_indices: blank_row(normal_indices, 0),
-        remap: blank_row(remap, 0),
+        positions: full_row(cells.positions),
+        vertex_color: full_row(cells.vertex_color),
+        texcoords: full_row(cells.texcoords),
+        normals: full_row(cells.normals),
+        indices: full_row(cells.indices),
+        face_arities: full_row(cells.face_arities),
+        vertex_color_indices: full_row(cells.vertex_color_indices),
+        texcoord_indices: full_row(cells.texcoord_indices),
+        normal_indices: full_row(cells.normal_indices),
+        remap: full_row(cells.remap),
     }
 }
 
-// An empty list over no more cells than it can use, with `blank` in each.
-fn blank_row<T: Copy>(cells: Vec<T>, blank: T) -> Row<T>
-    ensures count { result.count ≡ 0 }
-    ensures cells { held result ≡ replicate (most_of (length cells.items)) blank }
+// A list of no more of these cells than it has room for, with no cell past it.
+fn full_row<T: Copy>(mut cells: Vec<T>) -> Row<T>
+    ensures spare { (zero? : T → Bool) → Spare zero? result }
+    ensures room { room result ≡ most_of (length cells.items) }
 {
-    let mut kept = cells;
-    kept.truncate(MOST);
-    let mut row = Row::new(kept);
-    row.clear(blank);
-    row
+    cells.truncate(MOST);
+    let count = cells.len();
+    Row { cells, count }
 }

@@ -1,10 +1,10 @@
-ghost use Rattle.std.specs.Prelude.{◌≡◌, ℕ, ◌-◌, ◌<◌, ◌≤◌, Bool, true, List, map, MatchOption, slice_index};
-ghost use Rattle.elements.specs.Rows.{items, room};
-ghost use Rattle.mesh.specs.Lists.{Spare};
-ghost use Rattle.mesh.specs.Numbering.{picked, ref_numbers};
-ghost use Rattle.mesh.specs.Streams.{Found, LookedUp, ByNumber, Names, Placed, Written, Keeps, Takes};
+ghost use Rattle.std.specs.Prelude.{◌≤◌, MatchOption, is_ok};
+ghost use Rattle.elements.specs.Rows.{items};
+ghost use Rattle.mesh.specs.Single.{Kept, Becomes, placed};
+ghost use Rattle.mesh.specs.Streams.{Found, LookedUp, Writes, Keeps, Takes};
 
 use elements::corner::MISSING_INDEX;
+use elements::list::Full;
 use elements::row::Row;
 use tables::key::Reference;
 use tables::table::CornerTable;
@@ -32,7 +32,7 @@ pub(crate) fn look_up<T: Copy>(
     if reference != MISSING_INDEX {
         return element(elements, reference);
     }
-    match last(numbers) {
+    match numbers.as_slice().last().copied() {
         Some(number) => Some(Named::Again(number)),
         None => element(elements, 0),
     }
@@ -42,21 +42,9 @@ pub(crate) fn look_up<T: Copy>(
 fn element<T: Copy>(elements: &Row<T>, at: usize) -> Option<Named<Reference, T>>
     ensures { MatchOption result (elements.now.count ≤ at) (λ n. Found (items elements.now) at n) }
 {
-    match elements.get(at) {
-        Some(item) => Some(Named::Element(Reference { at }, item)),
-        None => None,
-    }
-}
-
-// The number that was written last.
-fn last(numbers: &Row<u32>) -> Option<u32>
-    ensures { MatchOption result (numbers.now.count ≡ 0) (λ n. (0 < numbers.now.count) × (n ≡ slice_index (items numbers.now) (numbers.now.count - 1))) }
-{
-    let count = numbers.len();
-    if count == 0 {
-        return None;
-    }
-    numbers.get(count - 1)
+    elements
+        .get(at)
+        .map(|item| Named::Element(Reference { at }, item))
 }
 
 // The number of what is named, which is entered unless the table has it; none where a new reference meets a full table.
@@ -64,25 +52,22 @@ pub(crate) fn enter<T: Copy, Table: CornerTable<Reference>>(
     table: &mut Table,
     named: Named<Reference, T>,
 ) -> Option<Named<u32, T>>
-    ensures kept { Keeps (Table.CornerTable.sound table.old) (Table.CornerTable.sound table.new) (Table.CornerTable.capacity table.old) (Table.CornerTable.capacity table.new) (Table.CornerTable.keys table.old) (Table.CornerTable.keys table.new) }
-    ensures taken { Takes (Table.CornerTable.sound table.old) (Table.CornerTable.capacity table.old) (Table.CornerTable.keys table.old) (Table.CornerTable.keys table.new) named result }
+    ensures kept { Keeps Table.CornerTable table.old table.new }
+    ensures taken { Takes Table.CornerTable table.old table.new named result }
 {
-    match named {
-        Named::Nothing => Some(Named::Nothing),
-        Named::Again(number) => Some(Named::Again(number)),
-        Named::Element(reference, item) => match table.enter(reference) {
-            Some(number) => Some(Named::Element(number, item)),
-            None => None,
-        },
-    }
+    Some(match named {
+        Named::Nothing => Named::Nothing,
+        Named::Again(number) => Named::Again(number),
+        Named::Element(reference, item) => Named::Element(table.enter(reference)?, item),
+    })
 }
 
 // Writes the element of a number, unless the list has it.
-pub(crate) fn place<T: Copy>(elements: &mut Row<T>, number: u32, item: T) -> bool
-    ensures { Placed elements.old elements.new number item result }
+pub(crate) fn place<T: Copy>(elements: &mut Row<T>, number: u32, item: T) -> Result<(), Full>
+    ensures { Becomes elements.old elements.new (placed (items elements.old) number item) (is_ok result) }
 {
     if (number as usize) < elements.len() {
-        return true;
+        return Ok(());
     }
     elements.push(item)
 }
@@ -92,18 +77,17 @@ pub(crate) fn write<T: Copy>(
     elements: &mut Row<T>,
     numbers: &mut Row<u32>,
     named: Named<u32, T>,
-) -> bool
-    ensures element_room { room elements.new ≡ room elements.old }
-    ensures number_room { room numbers.new ≡ room numbers.old }
-    ensures element_spare { (zero? : T → Bool) → Spare zero? elements.old → Spare zero? elements.new }
-    ensures number_spare { (zero? : ℕ → Bool) → Spare zero? numbers.old → Spare zero? numbers.new }
-    ensures written { (bits : T → List ℕ) (xs : List (List ℕ)) (rs : List ℕ) (m : ℕ) →
-        map bits (items elements.old) ≡ picked xs rs → items numbers.old ≡ ref_numbers xs rs → Names bits xs rs m ByNumber named →
-        Written bits xs rs m (room elements.old) (room numbers.old) (map bits (items elements.new)) (items numbers.new) result }
+) -> Result<(), Full>
+    ensures elements { Kept elements.old elements.new }
+    ensures numbers { Kept numbers.old numbers.new }
+    ensures written { Writes elements.old numbers.old named elements.new numbers.new (is_ok result) }
 {
     match named {
-        Named::Nothing => true,
+        Named::Nothing => Ok(()),
         Named::Again(number) => numbers.push(number),
-        Named::Element(number, item) => place(elements, number, item) && numbers.push(number),
+        Named::Element(number, item) => {
+            place(elements, number, item)?;
+            numbers.push(number)
+        }
     }
 }

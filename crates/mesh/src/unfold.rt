@@ -1,22 +1,108 @@
-ghost use Rattle.std.specs.Prelude.{◌≡◌, ◌<◌, ◌≤◌, List, [], ◌∷◌, ◌++◌, map, length, IfOk, filter, slice_index_or};
+ghost use Rattle.std.specs.Prelude.{◌≡◌, ◌+◌, ◌≤◌, List, [], ◌∷◌, ◌++◌, map, length, IfOk, Some, filter};
 ghost use Rattle.elements.specs.declared.corner.VertexIndices.{VertexIndices};
-ghost use Rattle.elements.specs.Contents.{sources, faces_of};
+ghost use Rattle.elements.specs.Contents.{faces_of};
+ghost use Rattle.elements.specs.Rows.{items};
+ghost use Rattle.elements.specs.Tiles.{part};
 ghost use Rattle.mesh.specs.Unfold.{wanted, triangles, corner, arity, events};
-ghost use Rattle.mesh.specs.Ways.{Unfolds, left_out, triangle};
-ghost use Rattle.mesh.specs.Writing.{Writing};
+ghost use Rattle.mesh.specs.Ways.{Unfolds};
+ghost use Rattle.mesh.specs.Writes.{Writes};
 
 use crate::lists::Lists;
 use crate::numbering::Numbering;
 use elements::attributes::Attributes;
-use elements::corner::VertexIndices;
+use elements::corner::{Face, VertexIndices};
 use elements::error::LoadError;
 use elements::options::LoadOptions;
 use elements::waiting::Waiting;
 
-// How a face unfolds.
-#[derive(Clone, Copy)]
-pub(crate) enum Unfolding {
-    Skipped,
+// An export under way: what it reads, and the lists and tables that it writes into.
+#[derive(Drop)]
+pub(crate) struct Writer<'a, N: Numbering> {
+    pub(crate) options: LoadOptions,
+    pub(crate) attributes: &'a Attributes,
+    pub(crate) lists: &'a mut Lists,
+    pub(crate) tables: &'a mut N,
+}
+
+impl<N: Numbering> Writer<'_, N> {
+    // Every waiting face that is not skipped, in order; answers how many these are.
+    pub(crate) fn write_faces(&mut self, waiting: &Waiting) -> Result<usize, LoadError>
+        ensures writes { Writes N.Numbering.stock N.Numbering.sound (events self.old.options (faces_of waiting.now)) self.old self.new result }
+        ensures count { IfOk result (λ n. n ≡ length (filter (wanted self.old.options) (faces_of waiting.now))) }
+    {
+        let mut written = 0;
+        for face in waiting.faces.as_slice() {
+            let corners = corners_of(waiting, *face);
+            let Some(way) = unfolding_of(corners.len(), self.options) else {
+                continue;
+            };
+            self.write_face(way, corners)?;
+            written += 1;
+        }
+        Ok(written)
+    }
+
+    // One face, in the way in which it unfolds.
+    fn write_face(&mut self, way: Unfolding, corners: &[VertexIndices]) -> Result<(), LoadError>
+        requires way { Unfolds self.old.options corners.now (Some way) }
+        requires short { length corners.now ≤ 16777216 }
+        ensures { Writes N.Numbering.stock N.Numbering.sound (events self.old.options (corners.now ∷ [])) self.old self.new result }
+    {
+        match way {
+            Unfolding::Empty => Err(LoadError::InvalidPolygon),
+            Unfolding::Point => self.write_corners(&[corners[0]; 3]),
+            Unfolding::Line => self.write_corners(&[corners[0], corners[1], corners[1]]),
+            Unfolding::Fan => self.write_fan(corners),
+            Unfolding::Plain => self.write_plain(corners),
+        }
+    }
+
+    // The triangles around the first corner.
+    fn write_fan(&mut self, corners: &[VertexIndices]) -> Result<(), LoadError>
+        requires { 3 ≤ length corners.now }
+        ensures { Writes N.Numbering.stock N.Numbering.sound (map corner (triangles corners.now)) self.old self.new result }
+    {
+        for side in corners[1..].windows(2) {
+            self.write_corners(&[corners[0], side[0], side[1]])?;
+        }
+        Ok(())
+    }
+
+    // The corners as they stand, and then how many they are.
+    fn write_plain(&mut self, corners: &[VertexIndices]) -> Result<(), LoadError>
+        requires { length corners.now ≤ 16777216 }
+        ensures { Writes N.Numbering.stock N.Numbering.sound (map corner corners.now ++ arity (length corners.now) ∷ []) self.old self.new result }
+    {
+        self.write_corners(corners)?;
+        let arity = corners.len() as u32;
+        self.lists
+            .face_arities
+            .push(arity)
+            .or(Err(LoadError::MeshFull))
+    }
+
+    // Corners one after the other.
+    fn write_corners(&mut self, corners: &[VertexIndices]) -> Result<(), LoadError>
+        ensures { Writes N.Numbering.stock N.Numbering.sound (map corner corners.now) self.old self.new result }
+    {
+        for vert in corners {
+            self.write_corner(*vert)?;
+        }
+        Ok(())
+    }
+
+    // One corner.
+    fn write_corner(&mut self, vert: VertexIndices) -> Result<(), LoadError>
+        ensures { Writes N.Numbering.stock N.Numbering.sound (corner vert ∷ []) self.old self.new result }
+    {
+        self.tables
+            .add_corner(self.options, self.lists, self.attributes, vert)
+    }
+}
+
+// How a face unfolds that is not skipped.
+#[derive(Clone, Copy, PartialEq, Eq, Debug)]
+enum Unfolding {
     Empty,
     Point,
     Line,
@@ -24,167 +110,26 @@ pub(crate) enum Unfolding {
     Plain,
 }
 
-// How a face of so many corners unfolds under these options.
-pub(crate) fn unfolding_of(count: usize, options: LoadOptions) -> Unfolding
+// How a face of so many corners unfolds under these options; none if it is skipped.
+fn unfolding_of(count: usize, options: LoadOptions) -> Option<Unfolding>
     ensures { (face : List VertexIndices) → length face ≡ count → Unfolds options face result }
 {
     match (count, options.triangulate) {
-        (1, _) if options.ignore_points => Unfolding::Skipped,
-        (2, _) if options.ignore_lines => Unfolding::Skipped,
-        (_, false) => Unfolding::Plain,
-        (0, true) => Unfolding::Empty,
-        (1, true) => Unfolding::Point,
-        (2, true) => Unfolding::Line,
-        (_, true) => Unfolding::Fan,
+        (1, _) if options.ignore_points => None,
+        (2, _) if options.ignore_lines => None,
+        (_, false) => Some(Unfolding::Plain),
+        (0, true) => Some(Unfolding::Empty),
+        (1, true) => Some(Unfolding::Point),
+        (2, true) => Some(Unfolding::Line),
+        (_, true) => Some(Unfolding::Fan),
     }
 }
 
-// Whether a face that unfolds so is left out of the mesh.
-fn is_skipped(way: Unfolding) -> bool
-    ensures { result ≡ left_out way }
-{
-    match way {
-        Unfolding::Skipped => true,
-        _ => false,
-    }
-}
-
-// Corners one after the other.
-fn write_corners<N: Numbering>(
-    options: LoadOptions,
-    lists: &mut Lists,
-    tables: &mut N,
-    attributes: &Attributes,
-    corners: &[VertexIndices],
-) -> Result<(), LoadError>
-    ensures { Writing options (sources attributes.now) (map corner corners.now) lists.old lists.new (N.Numbering.stock tables.old) (N.Numbering.stock tables.new) (N.Numbering.sound tables.old) (N.Numbering.sound tables.new) result }
-{
-    for vert in corners {
-        if let Err(error) = tables.add_corner(options, lists, attributes, *vert) {
-            return Err(error);
-        }
-    }
-    Ok(())
-}
-
-// The triangle of a fan that ends at a corner.
-fn triangle_at(corners: &[VertexIndices], at: usize) -> [VertexIndices; 3]
-    requires { (0 < at) × (at < length corners.now) }
-    ensures { result ≡ triangle corners.now at }
-{
-    [corners[0], corners[at - 1], corners[at]]
-}
-
-// The triangles around the first corner.
-fn write_fan<N: Numbering>(
-    options: LoadOptions,
-    lists: &mut Lists,
-    tables: &mut N,
-    attributes: &Attributes,
-    corners: &[VertexIndices],
-) -> Result<(), LoadError>
-    requires { 3 ≤ length corners.now }
-    ensures { Writing options (sources attributes.now) (map corner (triangles corners.now)) lists.old lists.new (N.Numbering.stock tables.old) (N.Numbering.stock tables.new) (N.Numbering.sound tables.old) (N.Numbering.sound tables.new) result }
-{
-    for at in 2..corners.len() {
-        let sides = triangle_at(corners, at);
-        if let Err(error) = write_corners(options, lists, tables, attributes, &sides) {
-            return Err(error);
-        }
-    }
-    Ok(())
-}
-
-// The corners as they stand, and then how many they are.
-fn write_plain<N: Numbering>(
-    options: LoadOptions,
-    lists: &mut Lists,
-    tables: &mut N,
-    attributes: &Attributes,
-    corners: &[VertexIndices],
-) -> Result<(), LoadError>
-    requires { length corners.now ≤ 16777216 }
-    ensures { Writing options (sources attributes.now) (map corner corners.now ++ arity (length corners.now) ∷ []) lists.old lists.new (N.Numbering.stock tables.old) (N.Numbering.stock tables.new) (N.Numbering.sound tables.old) (N.Numbering.sound tables.new) result }
-{
-    if let Err(error) = write_corners(options, lists, tables, attributes, corners) {
-        return Err(error);
-    }
-    if !lists.face_arities.push(corners.len() as u32) {
-        return Err(LoadError::MeshFull);
-    }
-    Ok(())
-}
-
-// One face, in the way in which it unfolds.
-fn write_face<N: Numbering>(
-    way: Unfolding,
-    options: LoadOptions,
-    lists: &mut Lists,
-    tables: &mut N,
-    attributes: &Attributes,
-    corners: &[VertexIndices],
-) -> Result<(), LoadError>
-    requires way { Unfolds options corners.now way }
-    requires short { length corners.now ≤ 16777216 }
-    ensures { Writing options (sources attributes.now) (events options (corners.now ∷ [])) lists.old lists.new (N.Numbering.stock tables.old) (N.Numbering.stock tables.new) (N.Numbering.sound tables.old) (N.Numbering.sound tables.new) result }
-{
-    match way {
-        Unfolding::Skipped => Ok(()),
-        Unfolding::Empty => Err(LoadError::InvalidPolygon),
-        Unfolding::Point => write_corners(
-            options,
-            lists,
-            tables,
-            attributes,
-            &[corners[0], corners[0], corners[0]],
-        ),
-        Unfolding::Line => write_corners(
-            options,
-            lists,
-            tables,
-            attributes,
-            &[corners[0], corners[1], corners[1]],
-        ),
-        Unfolding::Fan => write_fan(options, lists, tables, attributes, corners),
-        Unfolding::Plain => write_plain(options, lists, tables, attributes, corners),
-    }
-}
-
-// The corners of the waiting face at a place.
-fn corners_of(waiting: &Waiting, at: usize) -> &[VertexIndices]
-    requires { at < waiting.now.faces.count }
-    ensures corners { result.now ≡ slice_index_or (faces_of waiting.now) at [] }
+// The corners of a waiting face.
+fn corners_of(waiting: &Waiting, face: Face) -> &[VertexIndices]
+    requires { face.start + face.count ≤ waiting.now.corners.count }
+    ensures corners { result.now ≡ part (items waiting.now.corners) face }
     ensures short { length result.now ≤ 16777216 }
 {
-    let face = waiting.faces.cells[at];
-    let start = face.start;
-    let stop = start + face.count;
-    let corners: &[VertexIndices] = &waiting.corners.cells;
-    &corners[start..stop]
-}
-
-// Every waiting face that is not skipped, in order; answers how many these are.
-pub(crate) fn write_faces<N: Numbering>(
-    options: LoadOptions,
-    lists: &mut Lists,
-    tables: &mut N,
-    attributes: &Attributes,
-    waiting: &Waiting,
-) -> Result<usize, LoadError>
-    ensures writes { Writing options (sources attributes.now) (events options (faces_of waiting.now)) lists.old lists.new (N.Numbering.stock tables.old) (N.Numbering.stock tables.new) (N.Numbering.sound tables.old) (N.Numbering.sound tables.new) result }
-    ensures count { IfOk result (λ n. n ≡ length (filter (wanted options) (faces_of waiting.now))) }
-{
-    let mut written = 0;
-    for at in 0..waiting.faces.count {
-        let corners = corners_of(waiting, at);
-        let way = unfolding_of(corners.len(), options);
-        if is_skipped(way) {
-            continue;
-        }
-        if let Err(error) = write_face(way, options, lists, tables, attributes, corners) {
-            return Err(error);
-        }
-        written += 1;
-    }
-    Ok(written)
+    &waiting.corners.as_slice()[face.start..][..face.count]
 }

@@ -1,12 +1,14 @@
-use Rattle.std.proofs.Common.{◌≡◌, ℕ, zero, suc, ◌+◌, ◌^◌, ◌<◌, ◌≤◌, Bool, true, false, cond, ◌&&◌, eqb, ltb, leb, List, [], ◌∷◌, map, length, get_or, drop, ℤ, pos, neg_ℤ, is_some, Some, None, Option, sym, refl, ap, ◌∙◌, ⊎_elim, arith}
-use Rattle.std.proofs.lemmas.Bool.{and_parts, and_from, le-leb, leb-true, leb-false, eqb-true, false≢true, both_ways, cases_Bool}
-use Rattle.std.proofs.lemmas.List.{at_drop_more, at_drop_all}
+use Rattle.std.proofs.Common.{◌≡◌, ℕ, zero, suc, ◌+◌, ◌^◌, ◌≤◌, Bool, true, false, cond, ◌&&◌, eqb, ltb, leb, List, [], ◌∷◌, map, length, get_or, drop, ℤ, pos, neg_ℤ, is_some, Some, None, Option, sym, refl, ap, ◌∙◌, ⊎_elim, arith}
+use Rattle.std.proofs.lemmas.Bool.{and_parts, and_from, le-leb, leb-true, eqb-true, false≢true, both_ways, cases_Bool}
 use Rattle.std.proofs.lemmas.Bool.Decides.{nat_tests}
+use Rattle.std.specs.Bool.{MatchBool}
 use Rattle.std.specs.Option.{option_map}
+use Rattle.std.specs.Str.{IsAscii, IsNotAscii}
 use Rattle.elements.specs.declared.corner.VertexIndices.{VertexIndices}
 use Rattle.reading.specs.declared.counts.Counts.{Counts}
-use Rattle.reading.specs.Ascii.{plain, ascii}
-use Rattle.reading.specs.Value.{digit, digits, numeral, number, signed, value, reference}
+use Rattle.std.specs.Char.{is_ascii_digit}
+use Rattle.reading.specs.Ascii.{ascii}
+use Rattle.reading.specs.Value.{digits, numeral, number, signed, value, reference}
 use Rattle.reading.specs.Pieces.{Stretch, whole, onto, pieces, stretches, unless_empty, filled, space, slash, tokens, parts, none, vacant}
 use Rattle.reading.specs.Corner.{place, place_of, indices, corner_of, corner}
 use Rattle.reading.specs.Face.{all, corners, face}
@@ -21,7 +23,7 @@ all_ascii (q ∷ qs) = ascii q.bytes && all_ascii qs
 digits-ascii : (cs : List ℕ) → digits cs ≡ true → ascii cs ≡ true
 digits-ascii [] h = refl
 digits-ascii (c ∷ cs) h =
-    let p = and_parts (digit c) (digits cs) h in
+    let p = and_parts (is_ascii_digit c) (digits cs) h in
     let q = and_parts (leb 48 c) (leb c 57) p.0 in
     and_from (leb c 127) (ascii cs) (le-leb c 127 (omega (arith, leb-true c 57 q.1))) (digits-ascii cs p.1)
 
@@ -155,24 +157,17 @@ only_by n text (Some cs) e h = absurd (both_ways (ascii text) h (face-ascii n te
 pub only_ascii : OnlyAscii
 only_ascii n text h = only_by n text (face n text) refl h
 
--- a byte above 127 at a place is one
+-- what `is_ascii` of a slice tells
 
-ascii-at : (cs : List ℕ) (i : ℕ) → ascii cs ≡ true → i < length cs → get_or cs i 0 ≤ 127
-ascii-at [] i h l = absurd (omega arith)
-ascii-at (c ∷ cs) zero h l = leb-true c 127 (and_parts (leb c 127) (ascii cs) h).0
-ascii-at (c ∷ cs) (suc i) h l = ascii-at cs i (and_parts (leb c 127) (ascii cs) h).1 (omega arith)
+ascii-all : (cs : List ℕ) → IsAscii cs → ascii cs ≡ true
+ascii-all [] h = refl
+ascii-all (c ∷ cs) h = and_from (leb c 127) (ascii cs) (le-leb c 127 (omega (arith, h 0))) (ascii-all cs (λ i. h (suc i)))
 
-pub not-ascii-at : (cs : List ℕ) (i : ℕ) → i < length cs → 127 < get_or cs i 0 → ascii cs ≡ false
-not-ascii-at cs i l h = ⊎_elim (λ (a : ascii cs ≡ true). absurd (omega (arith, ascii-at cs i a l))) (λ e. e) (cases_Bool (ascii cs))
+ascii-at : (cs : List ℕ) (i : ℕ) → ascii cs ≡ true → get_or cs i 0 ≤ 127
+ascii-at [] i h = omega arith
+ascii-at (c ∷ cs) zero h = leb-true c 127 (and_parts (leb c 127) (ascii cs) h).0
+ascii-at (c ∷ cs) (suc i) h = ascii-at cs i (and_parts (leb c 127) (ascii cs) h).1
 
--- the bytes one by one
-
-module _ (xs : List ℕ) (i : ℕ) where
-  pub ascii_stop : i < length xs → plain (get_or xs i 0) ≡ false → false ≡ ascii xs
-  ascii_stop l h = sym (not-ascii-at xs i l (leb-false (get_or xs i 0) 127 h))
-
-  pub ascii_go : i < length xs → ascii (drop i xs) ≡ ascii xs → plain (get_or xs i 0) ≡ true → ascii (drop (i + 1) xs) ≡ ascii xs
-  ascii_go l h e = sym (at_drop_more ascii xs i 0 l ∙ ap (λ b. b && ascii (drop (i + 1) xs)) e) ∙ h
-
-  pub ascii_end : length xs ≤ i → ascii (drop i xs) ≡ ascii xs → true ≡ ascii xs
-  ascii_end l h = sym (at_drop_all ascii xs i l) ∙ h
+pub ascii_told : (b : Bool) (cs : List ℕ) → MatchBool b (IsAscii cs) (IsNotAscii cs) → b ≡ ascii cs
+ascii_told true cs h = sym (ascii-all cs h)
+ascii_told false cs h = ⊎_elim (λ (a : ascii cs ≡ true). absurd (omega (arith, h.1, ascii-at cs h.0 a))) sym (cases_Bool (ascii cs))

@@ -1,12 +1,18 @@
-use Rattle.std.proofs.Common.{◌≡◌, ℕ, ◌<◌, cond, List, [], ◌∷◌, length, get_or, drop, Some, None, Option, sym, refl, ap, ◌∙◌, arith}
+use Rattle.std.proofs.Common.{◌≡◌, ℕ, ◌<◌, Bool, true, false, cond, ◌&&◌, List, [], ◌∷◌, map, length, get_or, drop, Some, None, Option, sym, refl, ap, ◌∙◌, arith}
+use Rattle.std.proofs.lemmas.Iterator.{YieldsList}
+use Rattle.std.proofs.lemmas.Iterator.Consumers.{YieldsList-from_shown}
 use Rattle.std.proofs.lemmas.List.{get_or-drop, drop-drop}
+use Rattle.std.specs.Bool.{then_some}
+use Rattle.std.specs.List.{list_all}
 use Rattle.std.specs.Option.{option_map}
+use Rattle.elements.specs.declared.corner.VertexIndices.{VertexIndices}
 use Rattle.reading.specs.declared.counts.Counts.{Counts}
 use Rattle.reading.specs.declared.reader.Part.{Part}
 use Rattle.reading.specs.declared.reader.Part.TheVariants.{Empty, Filled}
+use Rattle.reading.specs.declared.reader.Parts.{Parts}
 use Rattle.reading.specs.Value.{value, reference}
-use Rattle.reading.specs.Pieces.{Stretch, whole, vacant}
-use Rattle.reading.specs.Readers.{Given, part_place}
+use Rattle.reading.specs.Pieces.{Stretch, whole, unless_empty, filled, none, vacant}
+use Rattle.reading.specs.Readers.{Gives, left, part_place}
 use Rattle.reading.specs.Corner.{place, place_of, indices, corner_of}
 
 place-filled : (n : ℕ) (bs : List ℕ) → 0 < length bs → place n bs ≡ option_map (reference n) (value bs)
@@ -14,26 +20,65 @@ place-filled n [] h = absurd (omega arith)
 place-filled n (c ∷ cs) h = refl
 
 -- what the reader answers refers to what the first of the parts that were left does
-place_is : (n : ℕ) (o : Option Part) (qs : List Stretch) → Given o qs → part_place n o ≡ place_of n qs 0
-place_is n None qs h = sym (ap (λ z. place_of n z 0) h)
-place_is n (Some (Empty at)) qs h = sym (ap (λ z. place_of n z 0) h.0)
-place_is n (Some (Filled bytes at)) qs h = sym (ap (λ z. place_of n z 0) h.0 ∙ place-filled n bytes.now h.1)
+place_is : (n : ℕ) (s : Parts) (o : Option Part) (t : Parts) → Gives s o t → part_place n o ≡ place_of n (left s) 0
+place_is n s None t h = sym (ap (λ z. place_of n z 0) h.0.0)
+place_is n s (Some (Empty at)) t h = sym (ap (λ z. place_of n z 0) h.0)
+place_is n s (Some (Filled bytes at)) t h = sym (ap (λ z. place_of n z 0) h.0 ∙ place-filled n bytes.now h.1)
 
--- what three calls of `next` read of the parts ps
-module _ (n : Counts) (ps l0 l1 l2 l3 : List Stretch) (x0 : l0 ≡ ps) (x1 : l1 ≡ drop 1 l0) (x2 : l2 ≡ drop 1 l1) (x3 : l3 ≡ drop 1 l2)
-    (q1 q2 q3 : Option Part) (g1 : Given q1 l0) (g2 : Given q2 l1) (g3 : Given q3 l2) where
-  l1_is : l1 ≡ drop 1 ps
-  l1_is = x1 ∙ ap (drop 1) x0
+left_is : (s : Parts) (o : Option Part) (t : Parts) → Gives s o t → left t ≡ drop 1 (left s)
+left_is s None t h = h.0.1 ∙ sym (ap (drop 1) h.0.0)
+left_is s (Some p) t h = sym (ap (drop 1) h.0)
 
-  l2_is : l2 ≡ drop 2 ps
-  l2_is = x2 ∙ (ap (drop 1) l1_is ∙ drop-drop 1 1 ps)
+-- whether all that are left are empty
 
-  l3_is : l3 ≡ drop 3 ps
-  l3_is = x3 ∙ (ap (drop 1) l2_is ∙ drop-drop 1 2 ps)
+abbrev is_nil : List ℕ → Bool
+is_nil [] = true
+is_nil (c ∷ cs) = false
 
-  pub corner_is : corner_of n ps ≡ cond (vacant l3) (indices (part_place n.positions q1) (part_place n.textures q2) (part_place n.normals q3)) None
+abbrev pub is_empty : Part → Bool
+is_empty (Empty at) = true
+is_empty (Filled bytes at) = false
+
+abbrev bare : List Stretch → List Bool
+bare qs = map (λ q. is_nil q.bytes) qs
+
+nil_filled : (bs : List ℕ) → 0 < length bs → is_nil bs ≡ false
+nil_filled [] h = absurd (omega arith)
+nil_filled (c ∷ cs) h = refl
+
+bare_step : (s : Parts) (p : Part) (t : Parts) → Gives s (Some p) t → bare (left s) ≡ is_empty p ∷ bare (left t)
+bare_step s (Empty at) t h = ap bare h.0
+bare_step s (Filled bytes at) t h = ap bare h.0 ∙ ap (λ b. b ∷ bare (left t)) (nil_filled bytes.now h.1)
+
+vacant_by : (q : Stretch) (bs : List ℕ) (qs : List Stretch) (b : Bool) → b ≡ vacant qs → is_nil bs && b ≡ none (unless_empty q bs (filled qs))
+vacant_by q [] qs b h = h
+vacant_by q (c ∷ cs) qs b h = refl
+
+pub bare_all : (qs : List Stretch) → list_all (λ b. b) (bare qs) ≡ vacant qs
+bare_all [] = refl
+bare_all (q ∷ qs) = vacant_by q q.bytes qs (list_all (λ b. b) (bare qs)) (bare_all qs)
+
+pub parts_yield : (s : Parts) → YieldsList Gives is_empty s (bare (left s))
+parts_yield s = YieldsList-from_shown Gives is_empty (λ t. bare (left t)) (λ a b h. ap (λ z. length (bare z)) h.0.0) bare_step s
+
+then_by : (b : Bool) (x : VertexIndices) → then_some b x ≡ cond b (Some x) None
+then_by true x = refl
+then_by false x = refl
+
+-- the corner from the answers of the reader
+module _ (n : Counts) (s0 s1 s2 s3 : Parts) (q1 q2 q3 : Option Part) (g1 : Gives s0 q1 s1) (g2 : Gives s1 q2 s2) (g3 : Gives s2 q3 s3) where
+  pub corner_is : corner_of n (left s0) ≡ cond (vacant (left s3)) (indices (part_place n.positions q1) (part_place n.textures q2) (part_place n.normals q3)) None
   corner_is =
-      let a = place_is n.positions q1 l0 g1 ∙ ap (λ z. place_of n.positions z 0) x0 in
-      let b = place_is n.textures q2 l1 g2 ∙ ap (λ z. place n.textures z.bytes) (ap (λ z. get_or z 0 (whole [])) l1_is ∙ get_or-drop 1 ps 0 (whole [])) in
-      let d = place_is n.normals q3 l2 g3 ∙ ap (λ z. place n.normals z.bytes) (ap (λ z. get_or z 0 (whole [])) l2_is ∙ get_or-drop 2 ps 0 (whole [])) in
-      rw (a, b, d, l3_is)
+      let l1 = left_is s0 q1 s1 g1 in
+      let l2 : left s2 ≡ drop 2 (left s0) = left_is s1 q2 s2 g2 ∙ (ap (drop 1) l1 ∙ drop-drop 1 1 (left s0)) in
+      let l3 : left s3 ≡ drop 3 (left s0) = left_is s2 q3 s3 g3 ∙ (ap (drop 1) l2 ∙ drop-drop 1 2 (left s0)) in
+      let a = place_is n.positions s0 q1 s1 g1 in
+      let b = place_is n.textures s1 q2 s2 g2 ∙ ap (λ z. place n.textures z.bytes) (ap (λ z. get_or z 0 (whole [])) l1 ∙ get_or-drop 1 (left s0) 0 (whole [])) in
+      let d = place_is n.normals s2 q3 s3 g3 ∙ ap (λ z. place n.normals z.bytes) (ap (λ z. get_or z 0 (whole [])) l2 ∙ get_or-drop 2 (left s0) 0 (whole [])) in
+      rw (a, b, d, l3) refl
+
+  pub corner_read : (v vt vn : ℕ) (b : Bool) → part_place n.positions q1 ≡ Some v → part_place n.textures q2 ≡ Some vt → part_place n.normals q3 ≡ Some vn → b ≡ vacant (left s3)
+      → then_some b (record { v = v; vt = vt; vn = vn }) ≡ corner_of n (left s0)
+  corner_read v vt vn b h1 h2 h3 e =
+      let all : cond (vacant (left s3)) (indices (part_place n.positions q1) (part_place n.textures q2) (part_place n.normals q3)) None ≡ cond (vacant (left s3)) (indices (Some v) (Some vt) (Some vn)) None = rw (h1, h2, h3) refl in
+      then_by b _ ∙ (ap (λ d. cond d (indices (Some v) (Some vt) (Some vn)) None) e ∙ sym (corner_is ∙ all))

@@ -1,13 +1,14 @@
-use Rattle.std.proofs.Common.{◌≡◌, ℕ, ◌+◌, ◌<◌, Bool, true, false, cond, List, [], ◌∷◌, ◌++◌, map, length, get_or, take, drop, set, is_some, Some, None, Option, sym, refl, ap, ◌∙◌, arith}
-use Rattle.std.proofs.lemmas.List.{append_assoc, length-append, length_push, length-take-le, drop_more, set_at, take-append-drop}
-use Rattle.std.proofs.lemmas.Bool.{leb-true, false≢true}
-use Rattle.std.specs.Option.{option_map}
+use Rattle.std.proofs.Common.{◌≡◌, ℕ, ◌+◌, ◌<◌, ◌≤◌, Bool, true, false, cond, List, [], ◌∷◌, ◌++◌, map, length, get_or, take, drop, set, is_some, Some, None, Option, sym, refl, ap, ◌∙◌, arith}
+use Rattle.std.proofs.lemmas.List.{append_assoc, append-nil, length-append, nil_from_length, take_all, take_more_set}
+use Rattle.std.proofs.lemmas.Bool.{false≢true}
+use Rattle.std.proofs.lemmas.Option.{none-some}
+use Rattle.std.specs.Option.{option_map, unwrap_or}
 use Rattle.elements.specs.declared.corner.VertexIndices.{VertexIndices}
 use Rattle.reading.specs.declared.counts.Counts.{Counts}
 use Rattle.reading.specs.Value.{value, reference}
 use Rattle.reading.specs.Pieces.{Stretch, whole, parts, vacant, tokens}
 use Rattle.reading.specs.Corner.{place, indices, corner}
-use Rattle.reading.specs.Face.{all, corners, face, room_for, written}
+use Rattle.reading.specs.Face.{all, corners, face}
 
 -- whether a token reads does not depend on the counts
 
@@ -45,7 +46,7 @@ reads-alike m n token =
 
 -- the tokens one by one
 
-abbrev after : List VertexIndices → Option (List VertexIndices) → Option (List VertexIndices)
+abbrev pub after : List VertexIndices → Option (List VertexIndices) → Option (List VertexIndices)
 after ds o = option_map (λ cs. ds ++ cs) o
 
 after_none : (o : Option (List VertexIndices)) → o ≡ after [] o
@@ -92,57 +93,35 @@ count_stop n k ts t us e s = stop_step n k ts t us (corner n t) e refl s
 pub count-all : (n : Counts) (k : ℕ) (ts : List Stretch) → ts ≡ [] → Some k ≡ more k (corners n ts)
 count-all n k ts e = ap Some (omega arith) ∙ sym (ap (λ us. more k (corners n us)) e)
 
--- cells with one corner more
+-- the cells that are written: ds are the corners so far, and ts the tokens that are left
 
-pub written_none : (start : ℕ) (old : List VertexIndices) → old ≡ written [] start old
-written_none start old = sym (ap (λ k. take start old ++ drop k old) (omega arith) ∙ take-append-drop start old)
+module _ (n : Counts) (ds : List VertexIndices) (ts : List Stretch) (m : ℕ) (fit : option_map length (after ds (corners n ts)) ≡ Some m) where
+  pub rest_there : length ds < m → ts ≡ [] → ⊥
+  rest_there l e =
+      let h : Some (length (ds ++ [])) ≡ Some m = sym (ap (λ us. option_map length (after ds (corners n us))) e) ∙ fit in
+      omega (arith, l, length-append ds [], ap (λ o. unwrap_or o 0) h)
 
-written_push : (ds : List VertexIndices) (start : ℕ) (old : List VertexIndices) (c : VertexIndices) → start + length ds < length old → set (written ds start old) (start + length ds) c ≡ written (ds ++ c ∷ []) start old
-written_push ds start old c l =
-    let k = start + length ds in
-    let ys = drop (k + 1) old in
-    let z : length (take start old ++ ds) ≡ start + length ds = length-append (take start old) ds ∙ ap (λ j. j + length ds) (length-take-le start old (omega arith)) in
-    ap (λ zs. set (take start old ++ (ds ++ zs)) k c) (drop_more old k c l)
-    ∙ (ap (λ zs. set zs k c) (sym (append_assoc (take start old) ds (get_or old k c ∷ ys)))
-    ∙ (set_at (take start old ++ ds) (get_or old k c) ys c k z
-    ∙ (append_assoc (take start old) ds (c ∷ ys)
-    ∙ (ap (λ zs. take start old ++ zs) (sym (append_assoc ds (c ∷ []) ys))
-    ∙ ap (λ j. take start old ++ ((ds ++ c ∷ []) ++ drop j old)) (omega (arith, length_push ds c))))))
+  pub corner_there : (t : Stretch) (us : List Stretch) → ts ≡ t ∷ us → corner n t ≡ None → ⊥
+  corner_there t us e h = none-some m (sym (ap (λ o. option_map length (after ds o)) (corners-none n ts t us e h)) ∙ fit)
 
-room_for_lem : (ds : List VertexIndices) (c : VertexIndices) (o : Option (List VertexIndices)) (start room : ℕ) → room_for (after ds (option_map (λ cs. c ∷ cs) o)) start room ≡ true → start + length ds < room
-room_for_lem ds c None start room h = absurd (false≢true h)
-room_for_lem ds c (Some cs) start room h = omega (arith, leb-true (start + length (ds ++ c ∷ cs)) room h, length-append ds (c ∷ cs))
+all_by : (ds : List VertexIndices) (o : Option (List VertexIndices)) → option_map length (after ds o) ≡ Some (length ds) → after ds o ≡ Some ds
+all_by ds None h = absurd (none-some (length ds) h)
+all_by ds (Some cs) h =
+    let e : length (ds ++ cs) ≡ length ds = ap (λ o. unwrap_or o 0) h in
+    let z : cs ≡ [] = nil_from_length cs (omega (arith, e, length-append ds cs)) in
+    ap (λ es. Some (ds ++ es)) z ∙ ap Some (append-nil ds)
 
--- how far the writing has come: the corners that are written, and the tokens that are left
-pub record Writing (n : Counts) (text : List ℕ) (start : ℕ) (old : List VertexIndices) (rest : List Stretch) (cells : List VertexIndices) (next : ℕ) : Type 0 where
-  pub done : List VertexIndices
-  pub here : next ≡ start + length done
-  pub reads : face n text ≡ after done (corners n rest)
-  pub cells_are : cells ≡ written done start old
+pub face_start : (n : Counts) (text : List ℕ) (ts : List Stretch) → ts ≡ tokens text → face n text ≡ after [] (corners n ts)
+face_start n text ts e = after_none (face n text) ∙ ap (λ us. after [] (corners n us)) (sym e)
 
-module _ (n : Counts) (text : List ℕ) (start : ℕ) (old : List VertexIndices) where
-  pub writing_none : Writing n text start old (tokens text) old start
-  writing_none = record { done = []; here = omega arith; reads = after_none (face n text); cells_are = written_none start old }
+pub face_more : (n : Counts) (text : List ℕ) (cells : List VertexIndices) (k : ℕ) (ts us : List Stretch) (t : Stretch) (c : VertexIndices) → k < length cells
+    → face n text ≡ after (take k cells) (corners n ts) → ts ≡ t ∷ us → corner n t ≡ Some c → face n text ≡ after (take (k + 1) (set cells k c)) (corners n us)
+face_more n text cells k ts us t c l h e g =
+    h ∙ (ap (after (take k cells)) (corners-more n ts t us c e g) ∙ (after_push (take k cells) c (corners n us)
+    ∙ ap (λ ds. after ds (corners n us)) (sym (take_more_set cells k c l))))
 
-  module _ (rest : List Stretch) (cells : List VertexIndices) (next : ℕ) (w : Writing n text start old rest cells next) where
-    pub writing_room : (t : Stretch) (us : List Stretch) (c : VertexIndices) → rest ≡ t ∷ us → corner n t ≡ Some c → room_for (face n text) start (length old) ≡ true → next < length old
-    writing_room t us c e h f =
-        let g = ap (λ o. room_for o start (length old)) (w.reads ∙ ap (after w.done) (corners-more n rest t us c e h)) in
-        omega (arith, w.here, room_for_lem w.done c (corners n us) start (length old) (sym g ∙ f))
-
-    pub writing_more : (t : Stretch) (us : List Stretch) (c : VertexIndices) → rest ≡ t ∷ us → corner n t ≡ Some c → room_for (face n text) start (length old) ≡ true → Writing n text start old us (set cells next c) (next + 1)
-    writing_more t us c e h f =
-        let r = writing_room t us c e h f in
-        record {
-          done = w.done ++ c ∷ [];
-          here = omega (arith, w.here, length_push w.done c);
-          reads = w.reads ∙ (ap (after w.done) (corners-more n rest t us c e h) ∙ after_push w.done c (corners n us));
-          cells_are =
-              ap (λ zs. set zs next c) w.cells_are
-              ∙ (ap (λ k. set (written w.done start old) k c) w.here ∙ written_push w.done start old c (omega (arith, w.here, r)));
-        }
-
-    pub writing_stuck : (t : Stretch) (us : List Stretch) → rest ≡ t ∷ us → corner n t ≡ None → room_for (face n text) start (length old) ≡ true → ⊥
-    writing_stuck t us e h f =
-        let g = ap (λ o. room_for o start (length old)) (w.reads ∙ ap (after w.done) (corners-none n rest t us e h)) in
-        false≢true (sym g ∙ f)
+pub face_end : (n : Counts) (text : List ℕ) (cells : List VertexIndices) (k : ℕ) (ts : List Stretch) → length cells ≤ k
+    → face n text ≡ after (take k cells) (corners n ts) → option_map length (face n text) ≡ Some (length cells) → face n text ≡ Some cells
+face_end n text cells k ts l h fit =
+    let e = h ∙ ap (λ ds. after ds (corners n ts)) (take_all k cells l) in
+    e ∙ all_by cells (corners n ts) (ap (option_map length) (sym e) ∙ fit)

@@ -1,7 +1,6 @@
 mod ValueFacts
 mod PieceFacts
 mod TokenFacts
-mod ReaderFacts
 mod CornerFacts
 mod FaceFacts
 mod TokenLaws

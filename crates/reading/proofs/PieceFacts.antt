@@ -1,56 +1,51 @@
-use Rattle.std.proofs.Common.{◌≡◌, ℕ, zero, suc, ◌+◌, ◌<◌, ◌≤◌, Bool, true, false, cond, ltb, List, [], ◌∷◌, length, get_or, take, drop, sym, refl, ap, ◌∙◌, add-one, arith}
-use Rattle.std.proofs.lemmas.List.{at_drop_more, at_drop_all, take_all}
-use Rattle.std.proofs.lemmas.Bool.{lt-ltb, le-ltb, cond-true, cond-false, eq-eqb, ne_eqb}
-use Rattle.reading.specs.Pieces.{onto, pieces, stretches, parts_from, vacant, slash}
+use Rattle.std.proofs.Common.{◌≡◌, ℕ, zero, suc, ◌+◌, ◌<◌, Bool, true, false, cond, ltb, List, [], ◌∷◌, length, get_or, take, drop, Some, None, sym, refl, ap, ◌∙◌, subst, add-one, arith}
+use Rattle.std.proofs.lemmas.List.{length-take-le}
+use Rattle.std.proofs.lemmas.List.Sums.{passes_at_first, fails_before_first}
+use Rattle.std.proofs.lemmas.Bool.{cond-true, cond-false, ltb-true, ltb-false}
+use Rattle.std.proofs.lemmas.Option.{cond_some, none-some}
+use Rattle.std.specs.List.{position, position_or_len}
+use Rattle.reading.specs.Pieces.{onto, pieces, stretches, parts_from, slash}
+
+none_by : (b : Bool) (k : ℕ) → cond b (Some k) None ≡ None → b ≡ false
+none_by true k h = absurd (none-some k (sym h))
+none_by false k h = refl
+
+-- what `position` found
+module _ (test : ℕ → Bool) (xs : List ℕ) where
+  pub found : (n : ℕ) → position test xs ≡ Some n → (n < length xs) × (test (get_or xs n 0) ≡ true) × ((k : ℕ) → k < n → test (get_or xs k 0) ≡ false)
+  found n h =
+      let e = cond_some (ltb (position_or_len test xs) (length xs)) (position_or_len test xs) n h in
+      let l = ltb-true (position_or_len test xs) (length xs) e.0 in
+      subst (λ (m : ℕ). (m < length xs) × (test (get_or xs m 0) ≡ true) × ((k : ℕ) → k < m → test (get_or xs k 0) ≡ false)) e.1
+      (l, passes_at_first test xs 0 l, λ k b. fails_before_first test xs k 0 b)
+
+  pub missed : position test xs ≡ None → (k : ℕ) → k < length xs → test (get_or xs k 0) ≡ false
+  missed h k l =
+      let m = ltb-false (position_or_len test xs) (length xs) (none_by (ltb (position_or_len test xs) (length xs)) (position_or_len test xs) h) in
+      fails_before_first test xs k 0 (omega arith)
 
 module _ (cut : ℕ → Bool) where
-  run_to : (xs : List ℕ) (i : ℕ) → i < length xs → ((k : ℕ) → k < i → cut (get_or xs k 0) ≡ false) → cut (get_or xs i 0) ≡ true → pieces cut xs ≡ take i xs ∷ pieces cut (drop (suc i) xs)
+  pub run_to : (xs : List ℕ) (i : ℕ) → i < length xs → ((k : ℕ) → k < i → cut (get_or xs k 0) ≡ false) → cut (get_or xs i 0) ≡ true → pieces cut xs ≡ take i xs ∷ pieces cut (drop (suc i) xs)
   run_to [] i l before here = absurd (omega arith)
   run_to (c ∷ cs) zero l before here = cond-true (cut c) ([] ∷ pieces cut cs) (onto c (pieces cut cs)) here
   run_to (c ∷ cs) (suc i) l before here =
       cond-false (cut c) ([] ∷ pieces cut cs) (onto c (pieces cut cs)) (before 0 (omega arith))
       ∙ ap (onto c) (run_to cs i (omega arith) (λ k h. before (suc k) (omega arith)) here)
 
-  run_out : (xs : List ℕ) → ((k : ℕ) → k < length xs → cut (get_or xs k 0) ≡ false) → pieces cut xs ≡ xs ∷ []
+  pub run_out : (xs : List ℕ) → ((k : ℕ) → k < length xs → cut (get_or xs k 0) ≡ false) → pieces cut xs ≡ xs ∷ []
   run_out [] before = refl
   run_out (c ∷ cs) before =
       cond-false (cut c) ([] ∷ pieces cut cs) (onto c (pieces cut cs)) (before 0 (omega arith))
       ∙ ap (onto c) (run_out cs (λ k h. before (suc k) (omega arith)))
 
-  pub piece_stop : (xs : List ℕ) (i : ℕ) → i < length xs → ((k : ℕ) → k < i → cut (get_or xs k 0) ≡ false) → cut (get_or xs i 0) ≡ true → pieces cut xs ≡ take i xs ∷ cond (ltb i (length xs)) (pieces cut (drop (i + 1) xs)) []
-  piece_stop xs i l before here =
-      rw (cond-true (ltb i (length xs)) (pieces cut (drop (i + 1) xs)) [] (lt-ltb i (length xs) l), add-one) (run_to xs i l before here)
+-- the first part of a token that begins at i
+module _ (i : ℕ) (xs : List ℕ) where
+  pub last_part : position slash xs ≡ None → parts_from i xs ≡ record { from = i; bytes = xs } ∷ []
+  last_part h = ap (stretches i) (run_out slash xs (missed slash xs h))
 
-  pub piece_end : (xs : List ℕ) → ((k : ℕ) → k < length xs → cut (get_or xs k 0) ≡ false) → pieces cut xs ≡ take (length xs) xs ∷ cond (ltb (length xs) (length xs)) (pieces cut (drop (length xs + 1) xs)) []
-  piece_end xs before =
-      rw (cond-false (ltb (length xs) (length xs)) (pieces cut (drop (length xs + 1) xs)) [] (le-ltb (length xs) (length xs) (omega arith)), take_all (length xs) xs (omega arith)) (run_out xs before)
-
-onto-filled : (i c : ℕ) (ps : List (List ℕ)) → vacant (stretches i (onto c ps)) ≡ false
-onto-filled i c [] = refl
-onto-filled i c (p ∷ ps) = refl
-
--- whether a text that is a part or parts has none but empty ones, wherever it begins
-abbrev pub bare : ℕ → List ℕ → Bool
-bare i xs = vacant (parts_from i xs)
-
-bare_slash : (i c : ℕ) (cs : List ℕ) → slash c ≡ true → bare i (c ∷ cs) ≡ bare (i + 1) cs
-bare_slash i c cs h =
-    ap (λ ps. vacant (stretches i ps)) (cond-true (slash c) ([] ∷ pieces slash cs) (onto c (pieces slash cs)) h)
-    ∙ ap (λ k. bare k cs) (omega arith)
-
-bare_other : (i c : ℕ) (cs : List ℕ) → slash c ≡ false → bare i (c ∷ cs) ≡ false
-bare_other i c cs h =
-    ap (λ ps. vacant (stretches i ps)) (cond-false (slash c) ([] ∷ pieces slash cs) (onto c (pieces slash cs)) h)
-    ∙ onto-filled i c (pieces slash cs)
-
-module _ (at : ℕ) (xs : List ℕ) (i : ℕ) where
-  pub bare_stop : i < length xs → bare (at + i) (drop i xs) ≡ bare at xs → (get_or xs i 0 ≡ 47 → ⊥) → false ≡ bare at xs
-  bare_stop l h e = sym (sym h ∙ (at_drop_more (bare (at + i)) xs i 0 l ∙ bare_other (at + i) (get_or xs i 0) (drop (i + 1) xs) (ne_eqb (get_or xs i 0) 47 e)))
-
-  pub bare_go : i < length xs → bare (at + i) (drop i xs) ≡ bare at xs → get_or xs i 0 ≡ 47 → bare (at + (i + 1)) (drop (i + 1) xs) ≡ bare at xs
-  bare_go l h e =
-      ap (λ k. bare k (drop (i + 1) xs)) (omega arith)
-      ∙ (sym (at_drop_more (bare (at + i)) xs i 0 l ∙ bare_slash (at + i) (get_or xs i 0) (drop (i + 1) xs) (eq-eqb (get_or xs i 0) 47 e)) ∙ h)
-
-  pub bare_end : length xs ≤ i → bare (at + i) (drop i xs) ≡ bare at xs → true ≡ bare at xs
-  bare_end l h = sym (at_drop_all (bare (at + i)) xs i l) ∙ h
+  pub next_part : (n : ℕ) → position slash xs ≡ Some n → parts_from i xs ≡ record { from = i; bytes = take n xs } ∷ parts_from (i + n + 1) (drop (n + 1) xs)
+  next_part n h =
+      let f = found slash xs n h in
+      ap (stretches i) (run_to slash xs n f.0 f.2 f.1)
+      ∙ (ap (λ k. record { from = i; bytes = take n xs } ∷ stretches (i + k + 1) (pieces slash (drop (suc n) xs))) (length-take-le n xs (omega arith))
+      ∙ ap (λ k. record { from = i; bytes = take n xs } ∷ parts_from (i + n + 1) (drop k xs)) (sym (add-one n)))

@@ -1,10 +1,11 @@
 -- What a token means: each of its first three parts refers to an element of a list, by its place there, or to none
 -- (missing), and a token reads exactly if those three do and every other part is empty.
-use Rattle.std.specs.Prelude.{ℕ, cond, List, [], ◌∷◌, drop, Some, None, Option, slice_index_or}
+use Rattle.std.specs.Prelude.{ℕ, if◌then◌else◌, List, [], ◌∷◌, drop, Some, None, Option, slice_index_or}
 use Rattle.std.specs.Option.{option_map}
+use Rattle.elements.specs.Corners.{missing}
 use Rattle.elements.specs.declared.corner.VertexIndices.{VertexIndices}
 use Rattle.reading.specs.declared.counts.Counts.{Counts}
-use Rattle.reading.specs.Value.{value, missing, reference}
+use Rattle.reading.specs.Value.{value, reference}
 use Rattle.reading.specs.Pieces.{Stretch, whole, parts, vacant}
 
 -- what the bytes of a part refer to in a list of n
@@ -24,7 +25,7 @@ indices (Some v) (Some vt) (Some vn) = Some (record { v = v; vt = vt; vn = vn })
 
 abbrev pub corner_of : Counts → List Stretch → Option VertexIndices
 corner_of n ps =
-    cond (vacant (drop 3 ps)) (indices (place_of n.positions ps 0) (place_of n.textures ps 1) (place_of n.normals ps 2)) None
+    if vacant (drop 3 ps) then indices (place_of n.positions ps 0) (place_of n.textures ps 1) (place_of n.normals ps 2) else None
 
 abbrev pub corner : Counts → Stretch → Option VertexIndices
 corner n token = corner_of n (parts token)

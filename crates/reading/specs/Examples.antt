@@ -1,8 +1,8 @@
 -- Worked readings: what some texts mean where there are 3 positions, 3 textures and 3 normals.
 use Rattle.std.specs.Prelude.{◌≡◌, ℕ, ◌+◌, ◌-◌, ◌^◌, List, [], ◌∷◌, Some, None, codes, Option}
+use Rattle.elements.specs.Corners.{missing}
 use Rattle.elements.specs.declared.corner.VertexIndices.{VertexIndices}
 use Rattle.reading.specs.declared.counts.Counts.{Counts}
-use Rattle.reading.specs.Value.{missing}
 use Rattle.reading.specs.Face.{face}
 
 abbrev three : Counts

@@ -1,6 +1,6 @@
 -- What a face text means: its tokens' corners in order, if every token reads. And what is left in the cells that
 -- these are written into.
-use Rattle.std.specs.Prelude.{◌≡◌, ℕ, ◌+◌, ◌≤◌, Bool, false, cond, List, [], ◌∷◌, ◌++◌, map, length, take, drop, is_some, Some, None, Option, nat_le}
+use Rattle.std.specs.Prelude.{◌≡◌, ℕ, ◌+◌, ◌≤◌, List, [], ◌∷◌, ◌++◌, map, length, take, drop, Some, None, Option, if◌then◌else◌, nat_le}
 use Rattle.std.specs.Option.{option_map}
 use Rattle.elements.specs.Cells.{room_of}
 use Rattle.elements.specs.declared.corner.VertexIndices.{VertexIndices}
@@ -20,31 +20,18 @@ corners n ts = all (map (corner n) ts)
 abbrev pub face : Counts → List ℕ → Option (List VertexIndices)
 face n text = corners n (tokens text)
 
--- whether there is a list, and it fits into so many cells from start on
-abbrev pub room_for : {X : Type 0} → Option (List X) → ℕ → ℕ → Bool
-room_for None start room = false
-room_for (Some xs) start room = nat_le (start + length xs) room
-
 -- how many are appended after the first start of a list with so much room: all, if there are any to append and they fit
 abbrev pub appended : {X : Type 0} → Option (List X) → ℕ → ℕ → Option ℕ
 appended None start room = None
-appended (Some xs) start room = cond (nat_le (start + length xs) room) (Some (length xs)) None
+appended (Some xs) start room = if nat_le (start + length xs) room then Some (length xs) else None
 
 -- cells into which a list was written from start on
 abbrev pub written : {X : Type 0} → List X → ℕ → List X → List X
 written xs start cells = take start cells ++ (xs ++ drop (start + length xs) cells)
 
--- whether a token reads is the same for all counts
-abbrev pub Readable : Stretch → Bool → Type 0
-Readable token r = (n : Counts) → r ≡ is_some (corner n token)
-
 -- how many corners a text has, if it reads, is the same for all counts
 abbrev pub Counted : List ℕ → Option ℕ → Type 0
 Counted text r = (n : Counts) → r ≡ option_map length (face n text)
-
--- the cells that a list, if there is one, leaves
-abbrev pub Stored : Option (List VertexIndices) → ℕ → List VertexIndices → List VertexIndices → Type 0
-Stored o start old new = (xs : List VertexIndices) → o ≡ Some xs → new ≡ written xs start old
 
 -- a list that fits is granted and written
 abbrev pub Granted : Option (List VertexIndices) → ℕ → List VertexIndices → List VertexIndices → Option ℕ → Type 0

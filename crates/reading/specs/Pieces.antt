@@ -1,6 +1,6 @@
 -- How a text falls into tokens, and a token into parts. A stretch is some bytes of a text with where they begin there;
 -- pieces are what lies before, between and after the bytes at which a text is cut; a token is a piece that is not empty.
-use Rattle.std.specs.Prelude.{ℕ, ◌+◌, Bool, true, false, cond, ◌&&◌, ◌||◌, List, [], ◌∷◌, length, ◌==◌, nat_le}
+use Rattle.std.specs.Prelude.{ℕ, ◌+◌, Bool, true, false, if◌then◌else◌, ◌&&◌, ◌||◌, List, [], ◌∷◌, length, ◌==◌, nat_le}
 
 pub record Stretch : Type 0 where
   pub from : ℕ
@@ -17,7 +17,7 @@ onto c (p ∷ ps) = (c ∷ p) ∷ ps
 
 abbrev pub pieces : (ℕ → Bool) → List ℕ → List (List ℕ)
 pieces cut [] = [] ∷ []
-pieces cut (c ∷ cs) = cond (cut c) ([] ∷ pieces cut cs) (onto c (pieces cut cs))
+pieces cut (c ∷ cs) = if cut c then [] ∷ pieces cut cs else onto c (pieces cut cs)
 
 -- the pieces with where they begin, the first at i: one byte lies between two
 abbrev pub stretches : ℕ → List (List ℕ) → List Stretch

@@ -1,13 +1,13 @@
-ghost use Rattle.std.specs.Prelude.{◌≡◌, ◌+◌, ◌^◌, ◌<◌, true, false, length, None};
-ghost use Rattle.reading.specs.Ascii.{plain, ascii};
-ghost use Rattle.reading.specs.Readers.{token_stretch};
+ghost use Rattle.std.specs.Prelude.{◌≡◌, false, length, Some, None};
+ghost use Rattle.std.specs.Option.{option_map};
+ghost use Rattle.reading.specs.Ascii.{ascii};
 ghost use Rattle.elements.specs.Cells.{room_of};
-ghost use Rattle.reading.specs.Face.{face, room_for, appended, Readable, Counted, Stored, Granted};
+ghost use Rattle.reading.specs.Face.{face, appended, Counted, Granted};
 ghost use Rattle.reading.specs.Laws.{Laws};
 ghost use Rattle.reading.specs.Examples.{Readings};
 
 use crate::counts::Counts;
-use crate::reader::{Token, Tokens};
+use crate::reader::Tokens;
 use crate::vertex::token_corner;
 use elements::corner::VertexIndices;
 use elements::list::room_of;
@@ -16,12 +16,7 @@ use elements::list::room_of;
 pub fn is_ascii(text: &[u8]) -> bool
     ensures { result ≡ ascii text.now }
 {
-    for byte in text {
-        if !is_plain(*byte) {
-            return false;
-        }
-    }
-    true
+    text.is_ascii()
 }
 
 // How many corners a face text has, if it reads.
@@ -31,12 +26,9 @@ pub fn count_corners(text: &[u8]) -> Option<usize>
     ensures laws { Laws }
     ensures readings { Readings }
 {
-    let mut tokens = Tokens::new(text);
     let mut count: usize = 0;
-    while let Some(token) = tokens.next() {
-        if !reads(token) {
-            return None;
-        }
+    for token in Tokens::new(text) {
+        token_corner(token, NO_COUNTS)?;
         count += 1;
     }
     Some(count)
@@ -56,52 +48,31 @@ pub fn parse_face(
     ensures laws { Laws }
     ensures readings { Readings }
 {
-    let Some(count) = count_corners(text) else {
-        return None;
-    };
+    let count = count_corners(text)?;
     let room = room_of(cells.len());
     if start > room || count > room - start {
         return None;
     }
-    write_corners(text, counts, cells, start);
+    write_corners(text, counts, &mut cells[start..start + count]);
     Some(count)
 }
 
-fn is_plain(byte: u8) -> bool
-    ensures { result ≡ plain byte }
-{
-    byte <= 127
-}
+// Whether a token reads does not depend on the counts.
+const NO_COUNTS: Counts = Counts {
+    positions: 0,
+    textures: 0,
+    normals: 0,
+};
 
-// Whether a token reads. That does not depend on the counts, so there are none.
-fn reads(token: Token) -> bool
-    requires { token.at + length token.bytes.now < 2 ^ 64 }
-    ensures { Readable (token_stretch token.entry) result }
-{
-    token_corner(
-        token,
-        Counts {
-            positions: 0,
-            textures: 0,
-            normals: 0,
-        },
-    )
-    .is_some()
-}
-
-// Writes the corners of a text that reads and fits.
-fn write_corners(text: &[u8], counts: Counts, cells: &mut [VertexIndices], start: usize)
-    requires { room_for (face counts text.now) start (length cells.old) ≡ true }
-    ensures { Stored (face counts text.now) start cells.old cells.new }
+// Writes the corners of a text that reads into as many cells.
+fn write_corners(text: &[u8], counts: Counts, cells: &mut [VertexIndices])
+    requires { option_map length (face counts text.now) ≡ Some (length cells.old) }
+    ensures { face counts text.now ≡ Some cells.new }
 {
     let mut tokens = Tokens::new(text);
-    let mut next = start;
-    while let Some(token) = tokens.next() {
-        // Each token of a text that reads does.
-        let Some(corner) = token_corner(token, counts) else {
-            return;
-        };
-        cells[next] = corner;
-        next += 1;
+    for cell in cells.iter_mut() {
+        // Each cell has its token, which reads, so neither `unwrap` fails.
+        let token = tokens.next().unwrap();
+        *cell = token_corner(token, counts).unwrap();
     }
 }

@@ -1,77 +1,8 @@
-ghost use Rattle.std.specs.Prelude.{◌≡◌, ◌+◌, ◌^◌, ◌<◌, true, pos, neg_ℤ, IfSome};
+ghost use Rattle.std.specs.Prelude.{◌≡◌, ◌+◌, ◌^◌, ◌<◌, true, pos, neg_ℤ};
 ghost use Rattle.std.specs.Option.{SomeIff};
-ghost use Rattle.reading.specs.Value.{value, below, signed, numeral, number, digit, digits as are_digits, reference as refer_to};
+ghost use Rattle.reading.specs.Value.{value, below, signed, numeral, number, digits as are_digits, reference as refer_to};
 
 use elements::corner::MISSING_INDEX;
-
-fn is_digit(byte: u8) -> bool
-    ensures { result ≡ digit byte }
-{
-    b'0' <= byte && byte <= b'9'
-}
-
-// Whether there is a byte, and every byte is a digit.
-fn is_numeral(bytes: &[u8]) -> bool
-    ensures { result ≡ numeral bytes.now }
-{
-    for byte in bytes {
-        if !is_digit(*byte) {
-            return false;
-        }
-    }
-    bytes.len() > 0
-}
-
-// The number that digits write, if it is below 2^64.
-fn magnitude(digits: &[u8]) -> Option<u64>
-    requires { are_digits digits.now ≡ true }
-    ensures { SomeIff result (number digits.now < 2 ^ 64) (number digits.now) }
-{
-    let mut sum: u64 = 0;
-    for digit in digits {
-        let Some(tens) = sum.checked_mul(10) else {
-            return None;
-        };
-        let Some(next) = tens.checked_add((*digit - b'0') as u64) else {
-            return None;
-        };
-        sum = next;
-    }
-    Some(sum)
-}
-
-// The number that a numeral writes, if it is below the limit.
-fn number_below(digits: &[u8], limit: u64) -> Option<u64>
-    ensures value { result ≡ below limit digits.now }
-    ensures bound { IfSome result (λ n. n < limit) }
-{
-    if !is_numeral(digits) {
-        return None;
-    }
-    match magnitude(digits) {
-        Some(size) if size < limit => Some(size),
-        _ => None,
-    }
-}
-
-fn positive(digits: &[u8]) -> Option<i64>
-    ensures { result ≡ signed pos (2 ^ 63) digits.now }
-{
-    match number_below(digits, 1 << 63) {
-        Some(size) => Some(size as i64),
-        None => None,
-    }
-}
-
-fn negative(digits: &[u8]) -> Option<i64>
-    ensures { result ≡ signed (λ n. neg_ℤ (pos n)) (2 ^ 63 + 1) digits.now }
-{
-    match number_below(digits, (1 << 63) + 1) {
-        Some(size) if size < 1 << 63 => Some(-(size as i64)),
-        Some(_) => Some(i64::MIN),
-        None => None,
-    }
-}
 
 // The number that a part writes: a sign or none, then digits.
 pub(crate) fn part_value(bytes: &[u8]) -> Option<i64>
@@ -95,4 +26,45 @@ pub(crate) fn reference(named: i64, count: usize) -> usize
     } else {
         count.wrapping_sub(named.unsigned_abs() as usize)
     }
+}
+
+fn positive(digits: &[u8]) -> Option<i64>
+    ensures { result ≡ signed pos (2 ^ 63) digits.now }
+{
+    0i64.checked_add_unsigned(natural(digits)?)
+}
+
+fn negative(digits: &[u8]) -> Option<i64>
+    ensures { result ≡ signed (λ n. neg_ℤ (pos n)) (2 ^ 63 + 1) digits.now }
+{
+    0i64.checked_sub_unsigned(natural(digits)?)
+}
+
+// The number that a numeral writes, if it is below 2^64.
+fn natural(bytes: &[u8]) -> Option<u64>
+    ensures { result ≡ below (2 ^ 64) bytes.now }
+{
+    if !is_numeral(bytes) {
+        return None;
+    }
+    magnitude(bytes)
+}
+
+// Whether there is a byte, and every byte is a digit.
+fn is_numeral(bytes: &[u8]) -> bool
+    ensures { result ≡ numeral bytes.now }
+{
+    !bytes.is_empty() && bytes.iter().all(u8::is_ascii_digit)
+}
+
+// The number that digits write, if it is below 2^64.
+fn magnitude(digits: &[u8]) -> Option<u64>
+    requires { are_digits digits.now ≡ true }
+    ensures { SomeIff result (number digits.now < 2 ^ 64) (number digits.now) }
+{
+    let mut sum: u64 = 0;
+    for digit in digits {
+        sum = sum.checked_mul(10)?.checked_add(u64::from(*digit - b'0'))?;
+    }
+    Some(sum)
 }

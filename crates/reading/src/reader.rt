@@ -1,20 +1,15 @@
 ghost use Rattle.std.specs.Prelude.{◌+◌, ◌^◌, ◌<◌, length};
 
-// Where a text is cut: at spaces into tokens, at slashes into parts.
-#[derive(Clone, Copy)]
-pub enum Separator {
-    Space,
-    Slash,
-}
-
 // A token of a face text, with where it begins there.
 #[derive(Clone, Copy)]
 pub struct Token<'a> {
     pub bytes: &'a [u8],
     pub at: usize,
+    ghost fits: { at + length bytes.now < 2 ^ 64 },
 }
 
 // A part of a token, with where it begins in the face text.
+// kept: an enum and no `Option`, since an empty part has its place in the text too
 #[derive(Clone, Copy)]
 pub enum Part<'a> {
     Empty { at: usize },
@@ -29,11 +24,8 @@ pub struct Tokens<'a> {
     ghost fits: { at + length rest.now < 2 ^ 64 },
 }
 
-// Reads the parts of a token: those of the bytes that are left, or none.
+// Reads the parts of a token: what is left of it, or none after its last part.
 #[derive(Drop)]
 pub struct Parts<'a> {
-    pub rest: &'a [u8],
-    pub at: usize,
-    pub more: bool,
-    ghost fits: { at + length rest.now < 2 ^ 64 },
+    pub rest: Option<Token<'a>>,
 }

@@ -11,10 +11,7 @@ const THREE: Counts = Counts {
 
 // The position that a token refers to, if the token reads.
 fn position(token: &[u8]) -> Option<usize> {
-    match VertexIndices::parse(token, THREE) {
-        Some(corner) => Some(corner.v),
-        None => None,
-    }
+    VertexIndices::parse(token, THREE).map(|corner| corner.v)
 }
 
 #[test]
@@ -69,6 +66,6 @@ fn cells(rt: HostRuntime) {
     for (text, start, granted, after) in cases {
         let mut cells = [VertexIndices { v: 7, vt: 7, vn: 7 }; 3];
         assert_eq!(rt; parse_face(text, THREE, &mut cells, start), granted);
-        assert_eq!(rt; [cells[0].v, cells[1].v, cells[2].v], after);
+        assert_eq!(rt; cells.map(|corner| corner.v), after);
     }
 }

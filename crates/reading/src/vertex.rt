@@ -1,7 +1,7 @@
-ghost use Rattle.std.specs.Prelude.{◌≡◌, ℕ, ◌+◌, ◌^◌, ◌<◌, cond, List, length, None, Option};
+ghost use Rattle.std.specs.Prelude.{◌≡◌, ℕ, List, Option};
 ghost use Rattle.reading.specs.declared.counts.Counts.{Counts};
 ghost use Rattle.reading.specs.Pieces.{whole};
-ghost use Rattle.reading.specs.Corner.{corner, indices};
+ghost use Rattle.reading.specs.Corner.{corner};
 ghost use Rattle.reading.specs.Readers.{token_stretch, part_place};
 
 use crate::counts::Counts;
@@ -34,35 +34,16 @@ impl Parse for VertexIndices {
     }
 }
 
-// The corner that a token means, if the token reads.
+// The corner that a token means, if its first three parts read and those after them are empty.
 pub(crate) fn token_corner(token: Token, counts: Counts) -> Option<VertexIndices>
-    requires { token.at + length token.bytes.now < 2 ^ 64 }
     ensures { result ≡ corner counts (token_stretch token.entry) }
 {
     let mut parts = Parts::new(token);
-    let first = parts.next();
-    let second = parts.next();
-    let third = parts.next();
-    corner_of(first, second, third, parts.vacant(), counts)
-}
-
-// The corner that three parts mean, if each of them reads and those after them are empty.
-fn corner_of(
-    first: Option<Part>,
-    second: Option<Part>,
-    third: Option<Part>,
-    others_empty: bool,
-    counts: Counts,
-) -> Option<VertexIndices>
-    ensures { result ≡ cond others_empty (indices (part_place counts.positions first.entry) (part_place counts.textures second.entry) (part_place counts.normals third.entry)) None }
-{
-    if !others_empty {
-        return None;
-    }
-    let v = part_reference(first, counts.positions)?;
-    let vt = part_reference(second, counts.textures)?;
-    let vn = part_reference(third, counts.normals)?;
-    Some(VertexIndices { v, vt, vn })
+    let v = part_reference(parts.next(), counts.positions)?;
+    let vt = part_reference(parts.next(), counts.textures)?;
+    let vn = part_reference(parts.next(), counts.normals)?;
+    let others_empty = parts.all(|part| matches!(part, Part::Empty { .. }));
+    others_empty.then_some(VertexIndices { v, vt, vn })
 }
 
 // What a part refers to in a list of so many; an absent part is as an empty one.
@@ -70,7 +51,7 @@ fn part_reference(part: Option<Part>, count: usize) -> Option<usize>
     ensures { result ≡ part_place count part.entry }
 {
     match part {
-        Some(Part::Filled { bytes, .. }) => Some(reference(part_value(bytes)?, count)),
+        Some(Part::Filled { bytes, .. }) => part_value(bytes).map(|named| reference(named, count)),
         _ => Some(MISSING_INDEX),
     }
 }

@@ -1,1 +1,2 @@
 pub mod PlayFacts
+pub mod LayoutFacts

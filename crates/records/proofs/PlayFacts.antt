@@ -1,28 +1,19 @@
 -- One record more of a tape.
 use Rattle.std.proofs.Common.{◌≡◌, ℕ, ◌+◌, ◌/◌, ◌<◌, ◌≤◌, cond, List, [], ◌∷◌, ◌++◌, length, take, drop, set, sym, refl, ap, ◌∙◌, subst, inl, inr, arith}
-use Rattle.std.proofs.lemmas.List.{append-nil, append_assoc, length_push, length-map, take_more_set, length-take-le, drop-set-lt, drop-drop, nil_from_length}
+use Rattle.std.proofs.lemmas.List.{append-nil, append_assoc, length_push, take_more_set, length-take-le, drop-set-lt, drop-drop, nil_from_length}
 use Rattle.std.proofs.lemmas.Bool.{le-ltb}
-use Rattle.elements.specs.declared.error.LoadError.TheVariants.{BadRecord}
 use Rattle.elements.specs.Contents.{Contents}
-use Rattle.elements.specs.Bits.{point_bits}
-use Rattle.elements.specs.Rows.{items}
-use Rattle.elements.proofs.RowFacts.{length-items}
-use Rattle.mesh.specs.declared.mesh.Mesh.{Mesh}
 use Rattle.mesh.specs.Surface.{Rooms, Capacities}
-use Rattle.mesh.specs.Writing.{Stock}
-use Rattle.book.specs.declared.calls.Answer.{Answer}
-use Rattle.book.specs.declared.calls.Answer.TheVariants.{Exported, Refused}
-use Rattle.book.specs.Held.{left}
 use Rattle.book.specs.Obeyed.{Untouched}
 use Rattle.book.specs.Requests.{Request, add_position, add_colour, add_texture, add_normal, add_face, write_mesh, BookRooms}
-use Rattle.book.specs.Rules.{Does, Left}
+use Rattle.book.specs.Rules.{CallAnswer, Does, Left}
 use Rattle.book.specs.History.{Past, more, Reaches, asks, answers_of, meshes_of}
 use Rattle.book.proofs.HistoryFacts.{history}
 use Rattle.records.specs.declared.record.Record.{Record}
 use Rattle.records.specs.declared.record.Record.TheVariants.{Position, Colour, Texture, Normal, Face, Export}
 use Rattle.records.specs.declared.line.Line.{Line}
 use Rattle.records.specs.Layout.{word_at, head, kind_of, size, Stands}
-use Rattle.records.specs.Playing.{heard, Asks, kind_number, told_of, line_of, Recorded, report, Unreadable, Ended, after_request, last_left, Played}
+use Rattle.records.specs.Playing.{heard, Asks, kind_number, line_of, bad_line, Recorded, report, Unreadable, Ended, after_request, last_left, Played}
 
 -- ---- the kind of a record
 
@@ -47,7 +38,7 @@ recorded_more : (ms : Rooms) (ts : Capacities) (tape : List ℕ) (qs : List Requ
 recorded_more ms ts tape [] rest r q e a = (r, subst (λ bs. Asks ms ts bs r q) e a, ap (drop (size r)) e)
 recorded_more ms ts tape (p ∷ qs) rest r q h a = (h.0, h.1, recorded_more ms ts (drop (size h.0) tape) qs rest r q h.2 a)
 
-report-more : (qs : List Request) (answers : List Answer) (meshes : List Left) (q : Request) (a : Answer) (m : Left) → length qs ≡ length answers → length qs ≡ length meshes
+report-more : (qs : List Request) (answers : List CallAnswer) (meshes : List Left) (q : Request) (a : CallAnswer) (m : Left) → length qs ≡ length answers → length qs ≡ length meshes
     → report (qs ++ q ∷ []) (answers ++ a ∷ []) (meshes ++ m ∷ []) ≡ report qs answers meshes ++ line_of (kind_number q) a m ∷ []
 report-more [] [] [] q a m e f = refl
 report-more [] [] (n ∷ ns) q a m e f = absurd (omega arith)
@@ -69,7 +60,7 @@ left_after (write_mesh o material ms ts) m n e = refl
 
 pub record Going (rs : BookRooms) (ms : Rooms) (ts : Capacities) (p : Past) (m : Left) (tape rest : List ℕ) (written : List Line) (c : Contents) (n : Left) : Type 0 where
   pub requests : List Request
-  pub answers : List Answer
+  pub answers : List CallAnswer
   pub meshes : List Left
   pub paired : length requests ≡ length answers
   pub paired_meshes : length requests ≡ length meshes
@@ -101,7 +92,7 @@ going_none rs ms ts p m tape c r =
     }
 
 module _ (rs : BookRooms) (ms : Rooms) (ts : Capacities) (p : Past) (m : Left) (tape rest : List ℕ) (lines : List Line) (i : ℕ) (c : Contents) (l : i < length lines) where
-  pub going_more : (rs' : BookRooms) (ms' : Rooms) (ts' : Capacities) (after : List ℕ) (d : Contents) (r : Record) (q : Request) (k : ℕ) (a : Answer) (x : Line) (old new : Left)
+  pub going_more : (rs' : BookRooms) (ms' : Rooms) (ts' : Capacities) (after : List ℕ) (d : Contents) (r : Record) (q : Request) (k : ℕ) (a : CallAnswer) (x : Line) (old new : Left)
       → rs' ≡ rs → q ≡ heard ms ts rest r → k ≡ kind_of rest → Stands rest r → after ≡ drop (size r) rest → x ≡ line_of k a new
       → Untouched q old new → Does rs' c q a new d
       → Going rs ms ts p m tape rest (take i lines) c old → Going rs ms ts p m tape after (take (i + 1) (set lines i x)) d new
@@ -157,30 +148,20 @@ module _ (rs : BookRooms) (ms : Rooms) (ts : Capacities) (p : Past) (m : Left) (
   pub played_all : (written : List Line) (room : ℕ) → length rest ≤ 0 → Going rs ms ts p m tape rest written c n → Played rs ms ts p m tape written room c n
   played_all written room l g = played_so rs ms ts p m tape rest written written room c n g (inl (nil_from_length rest (omega arith), g.written_is))
 
-  pub played_full : (lines : List Line) (i room : ℕ) → i ≤ length lines → room ≤ i → length lines ≡ room → Going rs ms ts p m tape rest (take i lines) c n → Played rs ms ts p m tape (take i lines) room c n
+  pub played_full : (lines : List Line) (i room : ℕ) → i ≤ length lines → length lines ≤ i → length lines ≡ room → Going rs ms ts p m tape rest (take i lines) c n
+      → Played rs ms ts p m tape (take (length lines) lines) room c n
   played_full lines i room l f e g =
-      played_so rs ms ts p m tape rest (take i lines) (take i lines) room c n g (inr (inr (length-take-le i lines l ∙ (let k : i ≡ room = omega arith in k), g.written_is)))
+      let all : i ≡ length lines = omega arith in
+      let P : ℕ → Type 0 = λ k. Played rs ms ts p m tape (take k lines) room c n in
+      subst P all (played_so rs ms ts p m tape rest (take i lines) (take i lines) room c n g (inr (inr (length-take-le i lines l ∙ (let k : i ≡ room = omega arith in k), g.written_is))))
 
-  pub played_bad : (lines : List Line) (i room k : ℕ) → i < length lines → k ≡ kind_of rest → Unreadable rest
-      → Going rs ms ts p m tape rest (take i lines) c n
-      → Played rs ms ts p m tape (take (i + 1) (set lines i (record { kind = k; answer = Refused BadRecord; indices = 0; positions = 0 }))) room c n
-  played_bad lines i room k l ek u g =
-      let line : ℕ → Line = λ j. record { kind = j; answer = Refused BadRecord; indices = 0; positions = 0 } in
+  pub played_bad : (lines : List Line) (i room : ℕ) (x : Line) → i < length lines → x ≡ bad_line rest → Unreadable rest → Going rs ms ts p m tape rest (take i lines) c n
+      → Played rs ms ts p m tape (take (i + 1) (set lines i x)) room c n
+  played_bad lines i room x l ex u g =
       played_so rs ms ts p m tape rest (take i lines) _ room c n g
-      (inr (inl (u, take_more_set lines i (line k) l ∙ (ap (λ ls. ls ++ line k ∷ []) g.written_is ∙ ap (λ j. report g.requests g.answers g.meshes ++ line j ∷ []) ek))))
+      (inr (inl (u, take_more_set lines i x l ∙ (ap (λ ls. ls ++ x ∷ []) g.written_is ∙ ap (λ y. report g.requests g.answers g.meshes ++ y ∷ []) ex))))
 
 -- the lines after the next one are as they were
 pub kept_more : (old lines : List Line) (n : ℕ) (x : Line) → drop n lines ≡ drop n old → drop (n + 1) (set lines n x) ≡ drop (n + 1) old
 kept_more old lines n x e =
     drop-set-lt (n + 1) lines n x (omega arith) ∙ (sym (drop-drop 1 n lines) ∙ (ap (drop 1) e ∙ drop-drop 1 n old))
-
--- the counts of a mesh's lists are their lengths
-pub line_told : (k : ℕ) (a : Answer) (w s : ℕ) (m : Mesh) (t : Stock) (i j : ℕ) → a ≡ Exported w s → i ≡ m.lists.indices.count → j ≡ m.lists.positions.count
-    → ◌≡◌ {A = Line} (record { kind = k; answer = a; indices = i; positions = j }) (line_of k a (left m t))
-line_told k a w s m t i j e ei ej =
-    let n = left m t in
-    let li = length-items m.lists.indices in
-    let lj = length-map (items m.lists.positions) point_bits ∙ length-items m.lists.positions in
-    let is : told_of a (length n.surface.indices) ≡ i = ap (λ x. told_of x (length n.surface.indices)) e ∙ (li ∙ sym ei) in
-    let js : told_of a (length n.surface.positions) ≡ j = ap (λ x. told_of x (length n.surface.positions)) e ∙ (lj ∙ sym ej) in
-    sym cc

@@ -5,7 +5,7 @@
 --   options_of n     the options whose flags are the bits of n
 --   size r           how many bytes the record r takes up
 --   Stands bs r      the record r begins bs
-use Rattle.std.specs.Prelude.{◌≡◌, ℕ, ◌+◌, ◌*◌, ◌/◌, ◌%◌, ◌<◌, ◌≤◌, Bool, cond, List, length, ◌==◌, from_bits, nat_lt, slice_index, Float}
+use Rattle.std.specs.Prelude.{◌≡◌, ℕ, ◌+◌, ◌*◌, ◌/◌, ◌%◌, ◌<◌, ◌≤◌, Bool, if◌then◌else◌, List, length, ◌==◌, from_bits, nat_lt, slice_index, Float}
 use Rattle.std.specs.Float.{binary32}
 use Rattle.elements.specs.declared.options.LoadOptions.{LoadOptions}
 use Rattle.records.specs.declared.record.Record.{Record}
@@ -22,7 +22,7 @@ abbrev pub head : ℕ → ℕ → ℕ
 head kind low = kind * 268435456 + low
 
 abbrev pub kind_of : List ℕ → ℕ
-kind_of bs = cond (nat_lt (length bs) 4) 0 (word_at bs 0 / 268435456)
+kind_of bs = if nat_lt (length bs) 4 then 0 else word_at bs 0 / 268435456
 
 -- the bit of n that is worth k
 abbrev pub bit : ℕ → ℕ → Bool

@@ -7,14 +7,13 @@
 --   Ended            why playing stopped: nothing was left, or what was left is no record, or no line was left to write
 --   last_left        what a mesh holds after a past: what its last export left, or what was there before
 --   Played           all of it together, after any past of the book
-use Rattle.std.specs.Prelude.{◌≡◌, ℕ, ◌<◌, ◌⊎◌, List, [], ◌∷◌, ◌++◌, length, take, drop, None}
+use Rattle.std.specs.Prelude.{◌≡◌, ℕ, ◌<◌, ◌⊎◌, List, [], ◌∷◌, ◌++◌, length, take, drop, Ok, Err, None}
 use Rattle.elements.specs.declared.error.LoadError.TheVariants.{BadRecord}
 use Rattle.elements.specs.Contents.{Contents}
 use Rattle.mesh.specs.Surface.{Rooms, Capacities}
-use Rattle.book.specs.declared.calls.Answer.{Answer}
-use Rattle.book.specs.declared.calls.Answer.TheVariants.{Done, Exported, Refused}
+use Rattle.book.specs.declared.calls.Reply.TheVariants.{Done, Exported}
 use Rattle.book.specs.Requests.{Request, add_position, add_colour, add_texture, add_normal, add_face, write_mesh, BookRooms}
-use Rattle.book.specs.Rules.{Left}
+use Rattle.book.specs.Rules.{CallAnswer, Left}
 use Rattle.book.specs.History.{Past, blank, more, Reaches, Promised, asks, answers_of, meshes_of}
 use Rattle.records.specs.declared.record.Record.{Record}
 use Rattle.records.specs.declared.record.Record.TheVariants.{Position, Colour, Texture, Normal, Face, Export}
@@ -44,17 +43,17 @@ kind_number (add_face text) = 5
 kind_number (write_mesh o material ms ts) = 6
 
 -- a count that is told of a granted export alone
-abbrev pub told_of : Answer → ℕ → ℕ
-told_of Done n = 0
-told_of (Exported w s) n = n
-told_of (Refused e) n = 0
+abbrev pub told_of : CallAnswer → ℕ → ℕ
+told_of (Ok Done) n = 0
+told_of (Ok (Exported w s)) n = n
+told_of (Err e) n = 0
 
-abbrev pub line_of : ℕ → Answer → Left → Line
+abbrev pub line_of : ℕ → CallAnswer → Left → Line
 line_of kind a m =
     record { kind = kind; answer = a; indices = told_of a (length m.surface.indices); positions = told_of a (length m.surface.positions) }
 
 abbrev pub bad_line : List ℕ → Line
-bad_line rest = record { kind = kind_of rest; answer = Refused BadRecord; indices = 0; positions = 0 }
+bad_line rest = record { kind = kind_of rest; answer = Err BadRecord; indices = 0; positions = 0 }
 
 -- ---- a whole tape
 
@@ -62,7 +61,7 @@ abbrev pub Recorded : Rooms → Capacities → List ℕ → List Request → Lis
 Recorded ms ts tape [] rest = rest ≡ tape
 Recorded ms ts tape (q ∷ qs) rest = (r : Record) × Asks ms ts tape r q × Recorded ms ts (drop (size r) tape) qs rest
 
-abbrev pub report : List Request → List Answer → List Left → List Line
+abbrev pub report : List Request → List CallAnswer → List Left → List Line
 report [] answers meshes = []
 report (q ∷ qs) [] meshes = []
 report (q ∷ qs) (a ∷ answers) [] = []
@@ -97,7 +96,7 @@ last_left before (more p h) = after_request h.asked (last_left before p) h.mesh
 -- mesh held m before, and holds n
 pub record Played (rs : BookRooms) (ms : Rooms) (ts : Capacities) (p : Past) (m : Left) (tape : List ℕ) (written : List Line) (room : ℕ) (c : Contents) (n : Left) : Type 0 where
   pub requests : List Request
-  pub answers : List Answer
+  pub answers : List CallAnswer
   pub meshes : List Left
   pub rest : List ℕ
   pub recorded : Recorded ms ts tape requests rest

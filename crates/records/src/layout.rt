@@ -1,9 +1,10 @@
-ghost use Rattle.std.specs.Prelude.{◌≡◌, ℕ, ◌+◌, ◌<◌, ◌≤◌, T, length, MatchOption, slice_index};
-ghost use Rattle.records.specs.Layout.{kind_of, size as bytes_of, options_of, padded, Triple, float_at, Stands};
+ghost use Rattle.std.specs.Prelude.{◌≡◌, ℕ, ◌+◌, ◌*◌, ◌<◌, ◌≤◌, ◌↔◌, IsTrue, length, MatchOption, slice_index, slice_index_or, Float};
+ghost use Rattle.records.specs.Layout.{kind_of, size as bytes_of, options_of, padded, float_at, Stands};
 
 use crate::record::Record;
 use crate::word::{float, word};
 use elements::options::LoadOptions;
+use std::array;
 
 // The lowest head word of kind 1: a kind stands in the top four bits.
 const KIND: u32 = 1 << 28;
@@ -15,6 +16,7 @@ const FLAGS: u32 = 32;
 const MOST_TEXT: usize = 4096;
 
 // The kind of the record that begins here; 0 where no whole word is left.
+// kept: a number, since the four bits are told as they stand, unknown kinds too
 pub fn kind(tape: &[u8]) -> u8
     ensures { result ≡ kind_of tape.now }
 {
@@ -28,58 +30,43 @@ pub fn kind(tape: &[u8]) -> u8
 fn whole_words(bytes: usize) -> usize
     requires { bytes < 65536 }
     ensures value { result ≡ padded bytes }
+    ensures least { bytes ≤ result }
     ensures bound { result < bytes + 4 }
 {
     (bytes + 3) / 4 * 4
 }
 
-// The three numbers after a head word.
-fn triple(tape: &[u8]) -> Option<(f32, f32, f32)>
-    ensures { MatchOption result (length tape.now < 16) (λ t. (16 ≤ length tape.now) × Triple tape.now t.0 t.1 t.2) }
+// The numbers after a head word, up to three.
+fn floats<const N: usize>(tape: &[u8]) -> Option<[f32; N]>
+    requires { N ≤ 3 }
+    ensures { MatchOption result (length tape.now < 4 + 4 * N)
+        (λ xs. (4 + 4 * N ≤ length tape.now) × ((k : ℕ) (e : Float) → k < N → slice_index_or xs k e ≡ float_at tape.now (4 + 4 * k))) }
 {
-    if tape.len() < 16 {
+    if tape.len() < 4 + 4 * N {
         return None;
     }
-    Some((float(tape, 4), float(tape, 8), float(tape, 12)))
-}
-
-// The two numbers after a head word.
-fn double(tape: &[u8]) -> Option<(f32, f32)>
-    ensures { MatchOption result (length tape.now < 12) (λ t. (12 ≤ length tape.now) × (t.0 ≡ float_at tape.now 4) × (t.1 ≡ float_at tape.now 8)) }
-{
-    if tape.len() < 12 {
-        return None;
-    }
-    Some((float(tape, 4), float(tape, 8)))
-}
-
-// Whether the bytes from one place up to another are all there and all zero.
-fn zeros(tape: &[u8], from: usize, to: usize) -> bool
-    ensures yes { T result → (to ≤ length tape.now) × ((i : ℕ) → from ≤ i → i < to → slice_index tape.now i ≡ 0) }
-    ensures no { to ≤ length tape.now → ((i : ℕ) → from ≤ i → i < to → slice_index tape.now i ≡ 0) → T result }
-{
-    if to > tape.len() {
-        return false;
-    }
-    for i in from..to {
-        if tape[i] != 0 {
-            return false;
-        }
-    }
-    true
+    Some(array::from_fn(|k| float(tape, 4 + 4 * k)))
 }
 
 // The options whose flags a number holds, a bit for each.
+// kept: a function and no `From`, since neither type is this crate's
 pub(crate) fn options(flags: u8) -> LoadOptions
     ensures { result ≡ options_of flags }
 {
     LoadOptions {
-        single_index: flags / 1 % 2 == 1,
-        triangulate: flags / 2 % 2 == 1,
-        ignore_points: flags / 4 % 2 == 1,
-        ignore_lines: flags / 8 % 2 == 1,
-        merge_identical_points: flags / 16 % 2 == 1,
+        single_index: flags & 1 != 0,
+        triangulate: flags & 2 != 0,
+        ignore_points: flags & 4 != 0,
+        ignore_lines: flags & 8 != 0,
+        merge_identical_points: flags & 16 != 0,
     }
+}
+
+// Whether the bytes are all zero.
+fn zeros(bytes: &[u8]) -> bool
+    ensures { IsTrue result ↔ ((i : ℕ) → i < length bytes.now → slice_index bytes.now i ≡ 0) }
+{
+    bytes.iter().all(|byte| *byte == 0)
 }
 
 // A face with a text of so many bytes, which whole words hold, filled up with zeros.
@@ -88,7 +75,11 @@ fn face(tape: &[u8], bytes: usize) -> Option<Record>
         (bytes ≤ 4096 → 4 + padded bytes ≤ length tape.now → ((i : ℕ) → 4 + bytes ≤ i → i < 4 + padded bytes → slice_index tape.now i ≡ 0) → ⊥)
         (λ x. (x ≡ Record.Face bytes) × (bytes ≤ 4096) × (4 + padded bytes ≤ length tape.now) × ((i : ℕ) → 4 + bytes ≤ i → i < 4 + padded bytes → slice_index tape.now i ≡ 0)) }
 {
-    if bytes <= MOST_TEXT && zeros(tape, 4 + bytes, 4 + whole_words(bytes)) {
+    if bytes > MOST_TEXT {
+        return None;
+    }
+    let filler = tape.get(4 + bytes..4 + whole_words(bytes))?;
+    if zeros(filler) {
         Some(Record::Face(bytes as u16))
     } else {
         None
@@ -118,22 +109,22 @@ pub fn read(tape: &[u8]) -> Option<Record>
     }
     let head = word(tape, 0);
     match (head / KIND, head % KIND) {
-        (1, 0) => match triple(tape) {
-            Some((x, y, z)) => Some(Record::Position(x, y, z)),
-            None => None,
-        },
-        (2, 0) => match triple(tape) {
-            Some((x, y, z)) => Some(Record::Colour(x, y, z)),
-            None => None,
-        },
-        (3, 0) => match double(tape) {
-            Some((u, v)) => Some(Record::Texture(u, v)),
-            None => None,
-        },
-        (4, 0) => match triple(tape) {
-            Some((x, y, z)) => Some(Record::Normal(x, y, z)),
-            None => None,
-        },
+        (1, 0) => {
+            let [x, y, z] = floats::<3>(tape)?;
+            Some(Record::Position(x, y, z))
+        }
+        (2, 0) => {
+            let [x, y, z] = floats::<3>(tape)?;
+            Some(Record::Colour(x, y, z))
+        }
+        (3, 0) => {
+            let [u, v] = floats::<2>(tape)?;
+            Some(Record::Texture(u, v))
+        }
+        (4, 0) => {
+            let [x, y, z] = floats::<3>(tape)?;
+            Some(Record::Normal(x, y, z))
+        }
         (5, bytes) => face(tape, bytes as usize),
         (6, flags) if flags < FLAGS => Some(Record::Export(flags as u8)),
         _ => None,

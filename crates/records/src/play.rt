@@ -12,7 +12,7 @@ use crate::layout::{kind, options, read};
 use crate::line::Line;
 use crate::record::Record;
 use book::book::Book;
-use book::calls::{Answer, Call};
+use book::calls::{Answer, Call, Reply};
 use book::obey::obey;
 use elements::error::LoadError;
 use mesh::mesh::Mesh;
@@ -20,6 +20,8 @@ use mesh::numbering::Numbering;
 
 // Plays a tape on a book, as far as it is readable and a line is left for each record, and says how many lines it wrote.
 // Exports write into this mesh, by these tables.
+// kept: book, mesh and tables apart, since the caller owns and lends each, and mesh and tables may be others at the next call
+#[tactic(auto, using(book::proofs::HistoryFacts::history))]
 pub fn play<N: Numbering>(
     book: &mut Book,
     mesh: &mut Mesh,
@@ -39,24 +41,20 @@ pub fn play<N: Numbering>(
         tape.now (take result lines.new) (length lines.old) (contained book.new) (left mesh.new (N.Numbering.stock tables.new)) }
 {
     let mut rest = tape;
-    let mut count = 0;
-    while count < lines.len() && rest.len() > 0 {
+    for (count, told) in lines.iter_mut().enumerate() {
+        if rest.is_empty() {
+            return count;
+        }
         let kind = kind(rest);
         let Some((call, after)) = next(rest) else {
-            lines[count] = Line {
-                kind,
-                answer: Answer::Refused(LoadError::BadRecord),
-                indices: 0,
-                positions: 0,
-            };
+            *told = line(kind, Err(LoadError::BadRecord), mesh);
             return count + 1;
         };
         let answer = obey(book, mesh, tables, call);
-        lines[count] = line(kind, answer, mesh);
-        count += 1;
+        *told = line(kind, answer, mesh);
         rest = after;
     }
-    count
+    lines.len()
 }
 
 // The call that begins here, and the bytes after its record.
@@ -64,11 +62,8 @@ fn next<'a>(tape: &'a [u8]) -> Option<(Call<'a>, &'a [u8])>
     ensures { MatchOption result ((x : Record) → Stands tape.now x → ⊥)
         (λ n. (x : Record) × Stands tape.now x × ((ms : Rooms) (ts : Capacities) → request ms ts n.0 ≡ heard ms ts tape.now x) × (n.1.now ≡ drop (bytes_of x) tape.now)) }
 {
-    let Some(record) = read(tape) else {
-        return None;
-    };
-    let (_, rest) = tape.split_at(record.size());
-    Some((call_of(record, tape), rest))
+    let record = read(tape)?;
+    Some((call_of(record, tape), &tape[record.size()..]))
 }
 
 // The call that a record asks for, where it begins the tape.
@@ -81,11 +76,7 @@ fn call_of<'a>(found: Record, tape: &'a [u8]) -> Call<'a>
         Record::Colour(x, y, z) => Call::Colour(x, y, z),
         Record::Texture(u, v) => Call::Texture(u, v),
         Record::Normal(x, y, z) => Call::Normal(x, y, z),
-        Record::Face(bytes) => {
-            let (_, after) = tape.split_at(4);
-            let (text, _) = after.split_at(usize::from(bytes));
-            Call::Face(text)
-        }
+        Record::Face(bytes) => Call::Face(&tape[4..4 + usize::from(bytes)]),
         Record::Export(flags) => Call::Export(options(flags), None),
     }
 }
@@ -94,21 +85,21 @@ fn call_of<'a>(found: Record, tape: &'a [u8]) -> Call<'a>
 fn line(kind: u8, answer: Answer, mesh: &Mesh) -> Line
     ensures { (t : Stock) → result ≡ line_of kind answer (left mesh.now t) }
 {
+    let plain = Line {
+        kind,
+        answer,
+        indices: 0,
+        positions: 0,
+    };
     match answer {
-        Answer::Exported(..) => {
+        Ok(Reply::Exported(..)) => {
             let lists = mesh.lists();
             Line {
-                kind,
-                answer,
                 indices: lists.indices.len(),
                 positions: lists.positions.len(),
+                ..plain
             }
         }
-        _ => Line {
-            kind,
-            answer,
-            indices: 0,
-            positions: 0,
-        },
+        _ => plain,
     }
 }

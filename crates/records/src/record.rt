@@ -1,5 +1,6 @@
 // One record of a tape: a call on a book. A face has so many bytes of text after its head word; an export has its options as flags.
-#[derive(Clone, Copy)]
+// kept: numbers as they stand on the tape, by a rule of the project
+#[derive(Clone, Copy, PartialEq, Debug)]
 pub enum Record {
     Position(f32, f32, f32),
     Colour(f32, f32, f32),

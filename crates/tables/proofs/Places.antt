@@ -1,35 +1,32 @@
--- What the first cells of a table mean, and what a table answers of them.
-use Rattle.std.proofs.Common.{◌≡◌, ℕ, ◌+◌, ◌<◌, ◌≤◌, min, List, [], ◌∷◌, ◌++◌, map, length, get_or, take, set, Some, None, sym, ap, ◌∙◌, subst, arith}
-use Rattle.std.proofs.lemmas.List.{length-map, length-take-le, length-set, get_or-map, get_or-take, take-map, take_more_set, map_push}
+-- What the keys of a row mean, and what a table answers of them.
+use Rattle.std.proofs.Common.{◌≡◌, ℕ, ◌<◌, List, [], ◌∷◌, ◌++◌, map, length, get_or, take, Some, None, Option, zero-le, sym, ap, ◌∙◌, subst, arith, MatchOption}
+use Rattle.std.proofs.lemmas.List.{length-map, get_or-map, map_push}
 use Rattle.std.proofs.lemmas.Bool.{both_ways}
+use Rattle.std.specs.List.{AllWithin, HoldsAt}
+use Rattle.elements.specs.declared.row.Row.{Row}
 use Rattle.elements.specs.First.{has, PlaceOf, Apart}
-use Rattle.elements.proofs.FirstFacts.{has-at, place_unique, place_none, entered-old, entered-new, apart-entered}
-use Rattle.tables.specs.Tables.{Fit, Found, Placed}
-use Rattle.tables.specs.Searching.{meanings, Searched}
+use Rattle.elements.specs.Rows.{held, items, room, Pushed}
+use Rattle.elements.proofs.FirstFacts.{has-at, lacks_absent, place_unique, place_none, entered-old, entered-new, apart-entered}
+use Rattle.elements.proofs.RowFacts.{length-items}
+use Rattle.tables.specs.Tables.{Fit, Found, Placed, Entering}
+use Rattle.tables.specs.Searching.{meanings}
 
 -- what is read of a cell, by its meaning
 pub at_map : {K : Type 0} (f : K → List ℕ) (xs : List K) (i : ℕ) (x : K) → i < length xs → x ≡ get_or xs i x → get_or (map f xs) i [] ≡ f x
 at_map f xs i x h e = get_or-map f xs i x [] h ∙ ap f (sym e)
 
-pub length-meanings : {K : Type 0} (f : K → List ℕ) (n : ℕ) (ks : List K) → n ≤ length ks → length (meanings f n ks) ≡ n
-length-meanings f n ks h = length-map (take n ks) f ∙ length-take-le n ks h
+module _ {K : Type 0} (f : K → List ℕ) (r : Row K) where
+  pub length-meanings : length (meanings f r) ≡ r.count
+  length-meanings = length-map (items r) f ∙ length-items r
 
-pub get_or-meanings : {K : Type 0} (f : K → List ℕ) (n : ℕ) (ks : List K) (i : ℕ) → i < n → get_or (meanings f n ks) i [] ≡ get_or (map f ks) i []
-get_or-meanings f n ks i h = ap (λ (xs : List (List ℕ)). get_or xs i []) (sym (take-map f n ks)) ∙ get_or-take n (map f ks) i [] h
+  pub meanings_fit : Apart (meanings f r) → Fit (room r) (meanings f r)
+  meanings_fit apart = let h = r.fits in record { apart = apart; within = omega (arith, length-meanings); most = omega arith }
 
-pub meanings_push : {K : Type 0} (f : K → List ℕ) (n : ℕ) (ks : List K) (k : K) → n < length ks → meanings f (n + 1) (set ks n k) ≡ meanings f n ks ++ f k ∷ []
-meanings_push f n ks k h = ap (map f) (take_more_set ks n k h) ∙ map_push f (take n ks) k
+  pub meanings_none : r.count ≡ 0 → meanings f r ≡ []
+  meanings_none e = ap (λ n. map f (take n (held r))) e
 
--- after a key was taken in last: the cells ks became us, and their count n became o
-module _ {K : Type 0} (f : K → List ℕ) (n o : ℕ) (ks us : List K) (k : K) (cells : us ≡ set ks n k) (count : o ≡ n + 1) where
-  pub pushed-length : length us ≡ length ks
-  pushed-length = ap length cells ∙ length-set ks n k
-
-  pub pushed_room : min (length us) 16777216 ≡ min (length ks) 16777216
-  pushed_room = ap (λ (x : ℕ). min x 16777216) pushed-length
-
-  pub pushed-keys : n < length ks → meanings f o us ≡ meanings f n ks ++ f k ∷ []
-  pushed-keys h = ap (λ (x : ℕ). meanings f x us) count ∙ ap (meanings f (n + 1)) cells ∙ meanings_push f n ks k h
+  pub meanings_push : (s : Row K) (k : K) → Pushed r s k → meanings f s ≡ meanings f r ++ f k ∷ []
+  meanings_push s k p = ap (map f) p.items ∙ map_push f (items r) k
 
 -- ---- answers from places
 
@@ -50,28 +47,22 @@ placed_new cap m ks ls i lacks e room more = record {
   room = λ _. omega arith;
 }
 
-pub apart_push : (ks ls : List (List ℕ)) (m : List ℕ) → Apart ks → Found m ks None → ls ≡ ks ++ m ∷ [] → Apart ls
-apart_push ks ls m apart lacks e =
-    let P : List (List ℕ) → Type 0 = λ xs. Apart xs in
-    subst P (entered-new ks m lacks ∙ sym e) (apart-entered ks m apart)
+-- what is said of a key whatever stands past the last one, said of its meaning
+pub at_meaning : {K : Type 0} (P : List ℕ → Type 0) (f : K → List ℕ) (ks : List K) (i : ℕ) → i < length ks → ((d : K) → P (f (get_or ks i d))) → P (get_or (map f ks) i [])
+at_meaning P f [] i l h = absurd (omega arith)
+at_meaning P f (k ∷ ks) i l h = subst P (sym (get_or-map f (k ∷ ks) i k [] l)) (h k)
 
--- ---- a table that is searched from the front
+-- what a search from the front answers, where the keys are told apart by what they mean
+pub first_found : {K : Type 0} (f : K → List ℕ) (m : List ℕ) (ks : List K) (o : Option ℕ) → MatchOption o (AllWithin (λ k. f k ≡ m → ⊥) ks 0 (length ks)) (λ i. (i < length ks) × HoldsAt (λ k. f k ≡ m) ks i × AllWithin (λ k. f k ≡ m → ⊥) ks 0 i) → Apart (map f ks) → Found m (map f ks) o
+first_found f m ks None h apart = lacks_absent (map f ks) m (λ i l.
+    let P : List ℕ → Type 0 = λ x. x ≡ m → ⊥ in
+    let inside : i < length ks = omega (arith, length-map ks f) in
+    at_meaning P f ks i inside (λ d. h i d zero-le inside))
+first_found f m ks (Some i) h apart =
+    let P : List ℕ → Type 0 = λ x. x ≡ m in
+    found_some m (map f ks) i apart (omega (arith, length-map ks f, h.0), at_meaning P f ks i h.0 h.1)
 
-pub searched_none : {K : Type 0} (f : K → List ℕ) (ks : List K) → Searched f 0 ks
-searched_none f ks = record { inside = omega arith; most = omega arith; apart = λ i j h. absurd (omega arith) }
-
-pub searched_length : {K : Type 0} (f : K → List ℕ) (n : ℕ) (ks : List K) → Searched f n ks → length (meanings f n ks) ≡ n
-searched_length f n ks s = length-meanings f n ks s.inside
-
-pub searched_fit : {K : Type 0} (f : K → List ℕ) (n : ℕ) (ks : List K) → Searched f n ks → Fit (min (length ks) 16777216) (meanings f n ks)
-searched_fit f n ks s = record { apart = s.apart; within = omega (arith, searched_length f n ks s, s.inside, s.most); most = omega arith }
-
--- after a new key
-pub searched_push : {K : Type 0} (f : K → List ℕ) (n o : ℕ) (ks us : List K) (k : K) → us ≡ set ks n k → o ≡ n + 1 → n < min (length ks) 16777216 → (Searched f n ks → Found (f k) (meanings f n ks) None) → Searched f n ks → Searched f o us
-searched_push f n o ks us k cells count room lacks s =
-    let inside : n < length ks = omega arith in
-    record {
-      inside = omega (arith, pushed-length f n o ks us k cells count);
-      most = omega arith;
-      apart = apart_push (meanings f n ks) (meanings f o us) (f k) s.apart (lacks s) (pushed-keys f n o ks us k cells count inside);
-    }
+-- entering keeps the keys apart
+pub entering_apart : (cap : ℕ) (m : List ℕ) (ks ls : List (List ℕ)) (o : Option ℕ) → Entering cap m ks ls o → Apart ks → Apart ls
+entering_apart cap m ks ls (Some i) h apart = let P : List (List ℕ) → Type 0 = λ xs. Apart xs in subst P (sym h.holds) (apart-entered ks m apart)
+entering_apart cap m ks ls None h apart = let P : List (List ℕ) → Type 0 = λ xs. Apart xs in subst P (sym h.holds) apart

@@ -1,10 +1,12 @@
 -- What callers of a table cite: how its answers follow the first appearances of the keys entered so far.
-use Rattle.std.proofs.Common.{◌≡◌, ℕ, ◌+◌, ◌<◌, false, ◌⊎◌, List, [], ◌∷◌, ◌++◌, length, get_or, take, drop, set, Some, sym, ap, ◌∙◌, subst, inl, inr, ⊎_elim, append_assoc, arith}
+use Rattle.std.proofs.Common.{◌≡◌, ℕ, ◌+◌, ◌<◌, ◌≤◌, false, ◌⊎◌, List, [], ◌∷◌, ◌++◌, map, length, get_or, take, drop, set, Some, Option, sym, ap, ◌∙◌, subst, inl, inr, ⊎_elim, append_assoc, arith}
 use Rattle.std.proofs.lemmas.Bool.{cases_Bool}
 use Rattle.std.proofs.lemmas.List.{length_push, length-take-le, take_more, drop_more, set_at}
 use Rattle.elements.specs.First.{has, distinct, place, numbers, entered, PlaceOf, Absent}
 use Rattle.elements.proofs.FirstFacts.{same-has, place_of, place_none, absent_lacks, entered-old, entered-new, place-entered, distinct-new, distinct_more, distinct-take-le, numbers_more, length-numbers}
-use Rattle.tables.specs.Tables.{Found, Placed, Refused}
+use Rattle.tables.specs.Numbering.{Stopped}
+use Rattle.tables.specs.Tables.{Found, Placed, Refused, Entering}
+use Rattle.tables.proofs.Places.{at_map}
 
 -- a found key stands at its place
 pub found_place : (m : List ℕ) (ks : List (List ℕ)) (i : ℕ) → Found m ks (Some i) → PlaceOf m ks i
@@ -41,6 +43,11 @@ module _ (cap : ℕ) (xs ks ls : List (List ℕ)) (m : List ℕ) (e : ks ≡ dis
   pub refused_over : Refused cap m ks ls → length (distinct (xs ++ m ∷ [])) ≡ cap + 1
   refused_over h = ap length (distinct-new xs m (refused-new h)) ∙ length_push (distinct xs) m ∙ ap (λ (n : ℕ). n + 1) (refused_full h)
 
+-- ---- where the key at i of vs was entered
+
+pub entering_at : {K : Type 0} (cap : ℕ) (f : K → List ℕ) (vs : List K) (ks ls : List (List ℕ)) (i : ℕ) (x : K) (o : Option ℕ) → i < length vs → x ≡ get_or vs i x → Entering cap (f x) ks ls o → Entering cap (get_or (map f vs) i []) ks ls o
+entering_at cap f vs ks ls i x o l is h = let P : List ℕ → Type 0 = λ m. Entering cap m ks ls o in subst P (sym (at_map f vs i x l is)) h
+
 -- ---- numbering the keys xs one by one into the cells `out`
 
 module _ (cap : ℕ) (xs ks ls : List (List ℕ)) (i : ℕ) (inside : i < length xs) (e : ks ≡ distinct (take i xs)) where
@@ -63,3 +70,13 @@ module _ (cap : ℕ) (xs ks ls : List (List ℕ)) (i : ℕ) (inside : i < length
       let more : length (distinct (take (i + 1) xs)) ≡ cap + 1 = ap (λ zs. length (distinct zs)) one_more ∙ refused_over cap (take i xs) ks ls (get_or xs i []) e h in
       let le = distinct-take-le (i + 1) xs in
       omega arith
+
+  pub step_stopped : (old out : List ℕ) → length xs ≤ length old → out ≡ numbers (take i xs) ++ drop i old → Refused cap (get_or xs i []) ks ls → Stopped cap xs old out i
+  step_stopped old out l o h = record {
+    cells = l;
+    over = step_over h;
+    inside = inside;
+    full = refused_full cap (take i xs) ks ls (get_or xs i []) e h;
+    new = refused-new cap (take i xs) ks ls (get_or xs i []) e h;
+    written = o;
+  }

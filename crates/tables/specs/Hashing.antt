@@ -1,13 +1,12 @@
--- A hashed table: its first n cells are its keys, and a slot holds 0 where it is free, else one more than a key's place.
---   slot_of h n           the slot, of n slots, at which the walk for a key with the hash h starts
---   used ss               how many of the slots ss are taken
---   Taken ss a b          no slot from a up to b is free
---   Leads ss s p          a walk from the slot s, round the end, comes to p before any free slot
---   Reach ss s v          such a walk comes to a slot that holds v
---   Hashed f d n ks ss    the n keys differ, and the walk for each leads to it
-use Rattle.std.specs.Prelude.{◌≡◌, ℕ, zero, suc, ◌+◌, ◌*◌, ◌/◌, ◌^◌, ◌<◌, ◌≤◌, List, [], ◌∷◌, length, get_or, ◌≢◌, slice_index, slice_index_or}
+-- A hashed table: its row holds its keys, and a slot holds 0 where it is free, else one more than a key's place.
+--   slot_of h n        the slot, of n slots, at which the walk for a key with the hash h starts
+--   used ss            how many of the slots ss are taken
+--   Taken ss a b       no slot from a up to b is free
+--   Leads ss s p       a walk from the slot s, round the end, comes to p before any free slot
+--   Reach ss s v       such a walk comes to a slot that holds v
+--   Hashed d ks ss     the keys, which mean ks, differ, and the walk for each leads to it
+use Rattle.std.specs.Prelude.{◌≡◌, ℕ, zero, suc, ◌+◌, ◌*◌, ◌/◌, ◌^◌, ◌<◌, ◌≤◌, List, [], ◌∷◌, length, ◌≢◌, slice_index, slice_index_or}
 use Rattle.elements.specs.First.{Apart}
-use Rattle.tables.specs.Searching.{meanings}
 
 -- the upper half of the hash, as a fraction of 2 ^ 32, scaled to the number of slots
 unfoldable pub slot_of : ℕ → ℕ → ℕ
@@ -32,13 +31,11 @@ pub record Leads (ss : List ℕ) (s p : ℕ) : Type 0 where
 pub record Reach (ss : List ℕ) (s v : ℕ) : Type 0 where
   pub at : ℕ
   pub inside : at < length ss
-  pub holds : get_or ss at 0 ≡ v
+  pub holds : slice_index ss at ≡ v
   pub leads : Leads ss s at
 
-pub record Hashed {K : Type 0} (f : K → List ℕ) (d : List ℕ → ℕ) (n : ℕ) (ks : List K) (ss : List ℕ) : Type 0 where
-  pub inside : n ≤ length ks
-  pub most : n ≤ 16777216
-  pub apart : Apart (meanings f n ks)
-  pub count : used ss ≡ n
-  pub held : (p : ℕ) → slice_index ss p ≤ n
-  pub reach : (i : ℕ) → i < n → Reach ss (slot_of (d (slice_index_or (meanings f n ks) i [])) (length ss)) (i + 1)
+pub record Hashed (d : List ℕ → ℕ) (ks : List (List ℕ)) (ss : List ℕ) : Type 0 where
+  pub apart : Apart ks
+  pub count : used ss ≡ length ks
+  pub held : (p : ℕ) → slice_index ss p ≤ length ks
+  pub reach : (i : ℕ) → i < length ks → Reach ss (slot_of (d (slice_index_or ks i [])) (length ss)) (i + 1)

@@ -1,13 +1,14 @@
--- A table that is searched from the front: its first n cells are its keys.
---   meanings f n ks    what the first n of the cells ks mean, by the meaning f
---   Searched f n ks    these n keys fit their cells and differ
-use Rattle.std.specs.Prelude.{ℕ, ◌≤◌, List, map, length, take}
+-- A table that is searched from the front: its row holds its keys.
+--   meanings f r    what the keys of the row r mean, by the meaning f
+--   Searched f r    they differ
+use Rattle.std.specs.Prelude.{ℕ, List, map}
+use Rattle.elements.specs.declared.row.Row.{Row}
 use Rattle.elements.specs.First.{Apart}
+use Rattle.elements.specs.Rows.{items}
 
-abbrev pub meanings : {K : Type 0} → (K → List ℕ) → ℕ → List K → List (List ℕ)
-meanings f n ks = map f (take n ks)
+module _ {K : Type 0} (f : K → List ℕ) (r : Row K) where
+  abbrev pub meanings : List (List ℕ)
+  meanings = map f (items r)
 
-pub record Searched {K : Type 0} (f : K → List ℕ) (n : ℕ) (ks : List K) : Type 0 where
-  pub inside : n ≤ length ks
-  pub most : n ≤ 16777216
-  pub apart : Apart (meanings f n ks)
+  abbrev pub Searched : Type 0
+  Searched = Apart meanings

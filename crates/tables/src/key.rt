@@ -1,5 +1,7 @@
 ghost use Rattle.std.specs.Prelude.{◌≡◌, ℕ, T, List};
-ghost use Rattle.tables.specs.Keys.{corner_refs, reference_refs, point_bits, pair_bits, mixed, digest as digested};
+ghost use Rattle.elements.specs.Bits.{point_bits, pair_bits};
+ghost use Rattle.elements.specs.Corners.{refs};
+ghost use Rattle.tables.specs.Keys.{reference_refs, mixed, digest as digested};
 
 use elements::corner::VertexIndices;
 use elements::point::{Pair, Point};
@@ -20,37 +22,18 @@ pub trait Key: Copy {
 }
 
 // One reference of a corner, to a position, a texture or a normal.
-#[derive(Clone, Copy)]
+#[derive(Clone, Copy, PartialEq, Eq, Debug)]
 pub struct Reference {
     pub at: usize,
 }
 
-// One number more in a hash: the upper half of the product depends on all bits of both numbers, and is folded onto the lower half, from which the next product spreads it again.
-fn mix(h: u64, x: u64) -> u64
-    ensures { result ≡ mixed h x }
-{
-    let y = (h ^ x).wrapping_mul(0x9e37_79b9_7f4a_7c15);
-    y ^ (y >> 32)
-}
-
-// The hash of a key that means these numbers. How many they are goes in last: without that product, references that rise by certain steps would crowd.
-fn hash_of(numbers: &[u64]) -> u64
-    ensures { result ≡ digested numbers.now }
-{
-    let mut h = 0;
-    for x in numbers {
-        h = mix(h, *x);
-    }
-    mix(h, numbers.len() as u64)
-}
-
 impl Key for VertexIndices {
-    ghost meaning = { corner_refs };
+    ghost meaning = { refs };
 
     ghost digest = { digested };
 
     fn same(&self, other: &Self) -> bool {
-        self.v == other.v && self.vt == other.vt && self.vn == other.vn
+        self == other // in all three references
     }
 
     fn hash(&self) -> u64 {
@@ -64,7 +47,7 @@ impl Key for Reference {
     ghost digest = { digested };
 
     fn same(&self, other: &Self) -> bool {
-        self.at == other.at
+        self == other // in all 64 bits
     }
 
     fn hash(&self) -> u64 {
@@ -72,24 +55,17 @@ impl Key for Reference {
     }
 }
 
-// A point as a key is its bits, so that 0 and -0 differ.
 impl Key for Point {
     ghost meaning = { point_bits };
 
     ghost digest = { digested };
 
     fn same(&self, other: &Self) -> bool {
-        self.x.to_bits() == other.x.to_bits()
-            && self.y.to_bits() == other.y.to_bits()
-            && self.z.to_bits() == other.z.to_bits()
+        self.bits() == other.bits() // so that 0 and -0 differ
     }
 
     fn hash(&self) -> u64 {
-        hash_of(&[
-            self.x.to_bits() as u64,
-            self.y.to_bits() as u64,
-            self.z.to_bits() as u64,
-        ])
+        hash_of(&self.bits().map(u64::from))
     }
 }
 
@@ -99,10 +75,26 @@ impl Key for Pair {
     ghost digest = { digested };
 
     fn same(&self, other: &Self) -> bool {
-        self.u.to_bits() == other.u.to_bits() && self.v.to_bits() == other.v.to_bits()
+        self.bits() == other.bits()
     }
 
     fn hash(&self) -> u64 {
-        hash_of(&[self.u.to_bits() as u64, self.v.to_bits() as u64])
+        hash_of(&self.bits().map(u64::from))
     }
+}
+
+// The hash of a key that means these numbers. How many they are goes in last: without that product, references that rise by certain steps would crowd.
+fn hash_of(numbers: &[u64]) -> u64
+    ensures { result ≡ digested numbers.now }
+{
+    let all = numbers.iter().fold(0, |h, x| mix(h, *x));
+    mix(all, numbers.len() as u64)
+}
+
+// One number more in a hash: the upper half of the product depends on all bits of both numbers, and is folded onto the lower half, from which the next product spreads it again.
+fn mix(h: u64, x: u64) -> u64
+    ensures { result ≡ mixed h x }
+{
+    let y = (h ^ x).wrapping_mul(0x9e37_79b9_7f4a_7c15);
+    y ^ (y >> 32)
 }

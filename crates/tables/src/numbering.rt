@@ -1,4 +1,4 @@
-ghost use Rattle.std.specs.Prelude.{◌≡◌, ◌≤◌, map, length};
+ghost use Rattle.std.specs.Prelude.{◌≡◌};
 ghost use Rattle.tables.specs.Numbering.{Each, Numbered};
 
 use crate::key::Key;
@@ -24,36 +24,30 @@ pub fn number_all<T: CornerTable<K>, K: Key>(
     ensures capacity { T.CornerTable.capacity table.new ≡ T.CornerTable.capacity table.old }
     ensures numbered { Numbered K.Key.meaning (T.CornerTable.capacity table.old) keys.now (T.CornerTable.keys table.new) out.old out.new result }
 {
-    if out.len() < keys.len() {
+    let numbered = number_each(table, keys, out);
+    if numbered.is_err() {
         table.empty();
-        return Err(Unnumbered::Short);
     }
-    match number_each(table, keys, out) {
-        None => Ok(()),
-        Some(i) => {
-            table.empty();
-            Err(Unnumbered::Full(i))
-        }
-    }
+    numbered
 }
 
-// Enters each key in turn and writes its number; answers the place of the first that met a full table, if one did.
+// Enters each key in turn and writes its number, up to the first that meets a full table.
 fn number_each<T: CornerTable<K>, K: Key>(
     table: &mut T,
     keys: &[K],
     out: &mut [u32],
-) -> Option<usize>
-    requires { length keys.now ≤ length out.old }
+) -> Result<(), Unnumbered>
     ensures sound { T.CornerTable.sound table.new }
     ensures capacity { T.CornerTable.capacity table.new ≡ T.CornerTable.capacity table.old }
-    ensures each { Each (T.CornerTable.capacity table.old) (map K.Key.meaning keys.now) (T.CornerTable.keys table.new) out.old out.new result }
+    ensures each { Each K.Key.meaning (T.CornerTable.capacity table.old) keys.now (T.CornerTable.keys table.new) out.old out.new result }
 {
     table.empty();
-    for (i, key) in keys.iter().enumerate() {
-        match table.enter(*key) {
-            Some(place) => out[i] = place,
-            None => return Some(i),
-        }
+    if out.len() < keys.len() {
+        return Err(Unnumbered::Short);
     }
-    None
+    for (i, key) in keys.iter().enumerate() {
+        // kept: zipped with `out.iter_mut()` as well, the loop binds three names, and is no plainer
+        out[i] = table.enter(*key).ok_or(Unnumbered::Full(i))?;
+    }
+    Ok(())
 }

@@ -1,7 +1,11 @@
-ghost use Rattle.std.specs.Prelude.{◌≡◌, ℕ, List, []};
+ghost use Rattle.std.specs.Prelude.{◌≡◌, ℕ, ◌<◌, false, List, [], IfSome};
+ghost use Rattle.elements.specs.First.{has};
+ghost use Rattle.elements.specs.Rows.{room};
+ghost use Rattle.tables.specs.Searching.{meanings};
 ghost use Rattle.tables.specs.Tables.{Fit, Found, Entering};
 
 use crate::key::Key;
+use elements::row::Row;
 
 // A table of different keys, each at the place at which it was entered. A further table has to show just this.
 pub trait CornerTable<K: Key> {
@@ -29,4 +33,15 @@ pub trait CornerTable<K: Key> {
         ensures sound { sound self.old → sound self.new }
         ensures fit { sound self.old → Fit (capacity self.new) (keys self.new) }
         ensures entering { sound self.old → Entering (capacity self.old) (K.Key.meaning key) (keys self.old) (keys self.new) result };
+}
+
+// Takes a new key in after the others, and answers its place; none, and no effect, where no cell is left.
+pub(crate) fn add<K: Key>(held: &mut Row<K>, key: K) -> Option<u32>
+    ensures room { room held.new ≡ room held.old }
+    ensures below { IfSome result (λ i. i < 16777216) }
+    ensures entering { has (meanings K.Key.meaning held.old) (K.Key.meaning key) ≡ false → Entering (room held.old) (K.Key.meaning key) (meanings K.Key.meaning held.old) (meanings K.Key.meaning held.new) result }
+{
+    let place = held.len() as u32;
+    held.push(key).ok()?;
+    Some(place)
 }

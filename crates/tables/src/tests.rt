@@ -13,57 +13,41 @@ use std::test::Fail;
 // Nine references whose walks, in a table with room for eight, all start at the last slot and go round the end.
 fn crowd() -> [Reference; 9] {
     let mut keys = [Reference { at: 0 }; 9];
-    let mut count = 0;
-    for at in 0..2000 {
-        let key = Reference { at };
-        if count < 9 && first_slot(key.hash(), 17) == 16 {
-            keys[count] = key;
-            count += 1;
-        }
+    let crowded = (0..2000)
+        .map(|at| Reference { at })
+        .filter(|key| first_slot(key.hash(), 17) == 16);
+    for (key, found) in keys.iter_mut().zip(crowded) {
+        *key = found;
     }
     keys
 }
 
-fn placed<T: CornerTable<Reference>>(
-    rt: &impl Abort,
-    table: &mut T,
-    key: Reference,
-    place: usize,
-) -> Result<(), Fail> {
-    match table.enter(key) {
-        Some(p) => {
-            assert_eq!(rt; p as usize, place);
-            Ok(())
-        },
-        None => Err(Fail::new("the table is full")),
-    }
-}
-
 // Fills a table that has room for eight.
-fn fill<T: CornerTable<Reference>>(rt: &impl Abort, table: &mut T) -> Result<(), Fail> {
+fn fill<T: CornerTable<Reference>>(rt: &impl Abort, table: &mut T) {
     let keys = crowd();
-    for i in 0..8 {
-        assert_eq!(rt; table.find(&keys[i]), None);
-        placed(rt, table, keys[i], i)?;
+    for (i, key) in keys[..8].iter().enumerate() {
+        assert_eq!(rt; table.find(key), None);
+        assert_eq!(rt; table.enter(*key), Some(i as u32));
     }
     assert_eq!(rt; table.enter(keys[8]), None);
-    for i in 0..8 {
-        placed(rt, table, keys[i], i)?;
-        assert_eq!(rt; table.find(&keys[i]), Some(i as u32));
+    for (i, key) in keys[..8].iter().enumerate() {
+        assert_eq!(rt; table.enter(*key), Some(i as u32));
+        assert_eq!(rt; table.find(key), Some(i as u32));
     }
     assert_eq!(rt; table.find(&keys[8]), None);
     table.empty();
     assert_eq!(rt; table.find(&keys[0]), None);
-    placed(rt, table, keys[8], 0)
+    assert_eq!(rt; table.enter(keys[8]), Some(0));
 }
 
 #[test]
 fn tables_fill_up(rt: HostRuntime) -> Result<(), Fail> {
     assert_eq!(rt; first_slot(crowd()[8].hash(), 17), 16);
     let mut hashed = HashedTable::new(rt.alloc(), vec![in rt.alloc(); Reference { at: 0 }; 8]?)?;
-    fill(&rt, &mut hashed)?;
+    fill(&rt, &mut hashed);
     let mut searched = SearchedTable::new(vec![in rt.alloc(); Reference { at: 0 }; 8]?);
-    fill(&rt, &mut searched)
+    fill(&rt, &mut searched);
+    Ok(())
 }
 
 // Two keys that differ, in a table with room for both.
@@ -101,11 +85,7 @@ fn keys_lose_no_bit(rt: HostRuntime) -> Result<(), Fail> {
     told_apart(
         &rt,
         heap,
-        Point {
-            x: 0.0,
-            y: 0.0,
-            z: 0.0,
-        },
+        Point::ZERO,
         Point {
             x: -0.0,
             y: 0.0,

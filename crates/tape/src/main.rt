@@ -1,20 +1,16 @@
 #![tactic(auto)]
 
-ghost use Rattle.std.specs.Prelude.{◌≤◌, length, IfOk};
-
 use anyhow::anyhow;
-use book::book::Book;
-use book::calls::Answer;
-use elements::corner::{Face, MISSING_INDEX, VertexIndices};
+use elements::corner::VertexIndices;
 use elements::point::{Pair, Point};
-use mesh::mesh::Mesh;
+use heap::blank::{NO_CORNER, blank_book, blank_mesh};
 use mesh::six_tables::Tables;
 use records::line::Line;
 use records::play::play;
 use std::alloc::{AllocError, Global};
 use std::io::Read;
 use tables::hashed::HashedTable;
-use tables::key::Reference;
+use tables::key::{Key, Reference};
 
 // How much of standard input is read.
 const MOST_BYTES: usize = 1_048_576;
@@ -35,121 +31,47 @@ type HashedTables = Tables<
     HashedTable<Pair>,
 >;
 
-const NO_CORNER: VertexIndices = VertexIndices {
-    v: MISSING_INDEX,
-    vt: MISSING_INDEX,
-    vn: MISSING_INDEX,
-};
-
-fn blank_book(heap: Global) -> Result<Book, AllocError> {
-    Ok(Book::new(book::cells::Cells {
-        positions: vec![in heap; Point::ZERO; PLACES]?,
-        colours: vec![in heap; Point::ZERO; PLACES]?,
-        textures: vec![in heap; Pair::ZERO; PLACES]?,
-        normals: vec![in heap; Point::ZERO; PLACES]?,
-        corners: vec![in heap; NO_CORNER; PLACES]?,
-        faces: vec![in heap; Face { start: 0, count: 0 }; PLACES]?,
-    }))
+fn hashed<K: Key>(heap: Global, blank: K) -> Result<HashedTable<K>, AllocError> {
+    HashedTable::new(heap, vec![in heap; blank; PLACES]?)
 }
 
-fn blank_mesh(heap: Global) -> Result<Mesh, AllocError> {
-    Ok(Mesh::new(mesh::cells::Cells {
-        positions: vec![in heap; Point::ZERO; PLACES]?,
-        vertex_color: vec![in heap; Point::ZERO; PLACES]?,
-        texcoords: vec![in heap; Pair::ZERO; PLACES]?,
-        normals: vec![in heap; Point::ZERO; PLACES]?,
-        indices: vec![in heap; 0u32; PLACES]?,
-        face_arities: vec![in heap; 0u32; PLACES]?,
-        vertex_color_indices: vec![in heap; 0u32; PLACES]?,
-        texcoord_indices: vec![in heap; 0u32; PLACES]?,
-        normal_indices: vec![in heap; 0u32; PLACES]?,
-        remap: vec![in heap; 0u32; PLACES]?,
-    }))
-}
-
-fn references(heap: Global) -> Result<HashedTable<Reference>, AllocError> {
-    HashedTable::new(heap, vec![in heap; Reference { at: 0 }; PLACES]?)
-}
-
+#[tactic(auto, using(elements::proofs::ZeroFacts::zero_is))]
 fn hashed_tables(heap: Global) -> Result<HashedTables, AllocError> {
+    let no_reference = Reference { at: 0 };
     Ok(Tables {
-        corners: HashedTable::new(heap, vec![in heap; NO_CORNER; PLACES]?)?,
-        positions: references(heap)?,
-        textures: references(heap)?,
-        normals: references(heap)?,
-        points: HashedTable::new(heap, vec![in heap; Point::ZERO; PLACES]?)?,
-        pairs: HashedTable::new(heap, vec![in heap; Pair::ZERO; PLACES]?)?,
+        corners: hashed(heap, NO_CORNER)?,
+        positions: hashed(heap, no_reference)?,
+        textures: hashed(heap, no_reference)?,
+        normals: hashed(heap, no_reference)?,
+        points: hashed(heap, Point::ZERO)?,
+        pairs: hashed(heap, Pair::ZERO)?,
     })
-}
-
-// Fills the tape from standard input, and says how many bytes there were.
-fn read_tape(rt: &HostRuntime, tape: &mut [u8]) -> anyhow::Result<usize>
-    ensures { IfOk result (λ n. n ≤ length tape.old) }
-{
-    let mut input = rt.stdin();
-    let mut count = 0;
-    while count < tape.len() {
-        match input.read(&mut tape[count..]) {
-            Ok(0) => break,
-            Ok(more) => count += more,
-            Err(_) => return Err(anyhow!("tape: standard input could not be read")),
-        }
-    }
-    Ok(count)
-}
-
-fn print_lines(rt: &HostRuntime, lines: &[Line]) -> anyhow::Result<()> {
-    for (i, line) in lines.iter().enumerate() {
-        let number = i + 1;
-        let kind = line.kind;
-        match line.answer {
-            Answer::Done => println!(rt; "{number} {kind} 0")?,
-            Answer::Exported(..) => {
-                let indices = line.indices;
-                let positions = line.positions;
-                println!(rt; "{number} {kind} 0 {indices} {positions}")?
-            }
-            Answer::Refused(error) => {
-                let refused = error.number();
-                println!(rt; "{number} {kind} {refused}")?
-            }
-        }
-    }
-    Ok(())
 }
 
 fn run(rt: &HostRuntime) -> anyhow::Result<()> {
     let heap = rt.alloc();
-    let Ok(mut book) = blank_book(heap) else {
-        return Err(anyhow!("tape: no memory for the lists of the book"));
-    };
-    let Ok(mut mesh) = blank_mesh(heap) else {
-        return Err(anyhow!("tape: no memory for the lists of the mesh"));
-    };
-    let Ok(mut tables) = hashed_tables(heap) else {
-        return Err(anyhow!("tape: no memory for the tables"));
-    };
-    let Ok(mut tape) = vec![in heap; 0u8; MOST_BYTES] else {
-        return Err(anyhow!("tape: no memory for the tape"));
-    };
-    let blank = Line {
-        kind: 0,
-        answer: Answer::Done,
-        indices: 0,
-        positions: 0,
-    };
-    let Ok(mut lines) = vec![in heap; blank; MOST_LINES] else {
-        return Err(anyhow!("tape: no memory for the answers"));
-    };
-    let bytes = read_tape(rt, &mut tape)?;
-    let count = play(
-        &mut book,
-        &mut mesh,
-        &mut tables,
-        &tape[0..bytes],
-        &mut lines,
-    );
-    print_lines(rt, &lines[0..count])
+    let mut book = blank_book(heap, PLACES).map_err(|_| anyhow!(
+        "tape: no memory for the lists of the book"
+    ))?;
+    let mut mesh = blank_mesh(heap, PLACES).map_err(|_| anyhow!(
+        "tape: no memory for the lists of the mesh"
+    ))?;
+    let mut tables = hashed_tables(heap).map_err(|_| anyhow!("tape: no memory for the tables"))?;
+    let mut tape = Vec::with_capacity(heap, MOST_BYTES).map_err(|_| anyhow!(
+        "tape: no memory for the tape"
+    ))?;
+    let mut lines = vec![in heap; Line::BLANK; MOST_LINES].map_err(|_| anyhow!(
+        "tape: no memory for the answers"
+    ))?;
+    rt.stdin()
+        .take(MOST_BYTES as u64)
+        .read_to_end(&mut tape)
+        .map_err(|_| anyhow!("tape: standard input could not be read"))?;
+    let count = play(&mut book, &mut mesh, &mut tables, &tape, &mut lines);
+    for (i, line) in lines[..count].iter().enumerate() {
+        println!(rt; "{} {line}", i + 1)?;
+    }
+    Ok(())
 }
 
 fn main(rt: HostRuntime) -> anyhow::Result<()> {

@@ -5,7 +5,9 @@ use Rattle.book.proofs.unnamed.enter_named.Given as goal
 -- the table holds what the corners so far name, and has room for it
 abbrev pub invariant-loop-corner : goal.invariant-loop-corner
 invariant-loop-corner g l =
-    (g.T.CornerTable.sound l.named)
-    × (g.T.CornerTable.capacity l.named ≡ g.T.CornerTable.capacity l.initial.named)
-    × (g.T.CornerTable.keys l.named ≡ named_among l.positions (take l.corner-index l.corners))
-    × (length (named_among l.positions (take l.corner-index l.corners)) ≤ g.T.CornerTable.capacity l.initial.named)
+    record {
+      sound : g.T.CornerTable.sound l.named;
+      capacity : g.T.CornerTable.capacity l.named ≡ g.T.CornerTable.capacity l.initial.named;
+      keys : g.T.CornerTable.keys l.named ≡ named_among l.positions (take l.corner-index l.corners);
+      within : length (named_among l.positions (take l.corner-index l.corners)) ≤ g.T.CornerTable.capacity l.initial.named;
+    }

@@ -1,21 +1,14 @@
-use Rattle.elements.specs.Rows.{items}
-use Rattle.mesh.specs.Merges.{through, looked_up}
-use Rattle.mesh.proofs.MergeRows.{lent_fits, lent_steady, mapped_items, mapped_rest}
+use Rattle.std.proofs.Common.{◌-◌, get_or, take, set, unwrap_or, ap, ◌∙◌, arith}
+use Rattle.std.proofs.lemmas.List.{get_or_default}
+use Rattle.std.proofs.lemmas.List.Edits.{map_over_more}
+use Rattle.mesh.specs.Merges.{through}
 use Rattle.mesh.proofs.merge.renumber.Goals as goal
 
-pub invariant_of-indices : goal.invariant_of-indices
-invariant_of-indices c = record { fits = lent_fits c.args.indices.now c.deref_mut.result.now c.renumber_cells.new.numbers c.deref_mut.ensures.value c.renumber_cells.auto.numbers }
-
-pub returns : goal.returns
-unfolding looked_up
-returns c =
-    let r = c.args.indices.now in
-    let ys = c.deref_mut.result.now in
-    let ws = c.renumber_cells.new.numbers in
-    let e = c.deref_mut.ensures.value in
-    let n = c.renumber_cells.auto.numbers in
-    let f = through (items c.args.remap.now) in
-    record {
-      items = mapped_items r ys ws e n f c.renumber_cells.ensures;
-      steady = lent_steady r ys ws e n 0 (mapped_rest r ys ws e n f c.renumber_cells.ensures) _;
-    }
+pub loop-number-preserved : goal.loop-number-preserved
+loop-number-preserved c =
+    let xs = take (c.args.indices.now.count - 0) c.deref_mut.result.now in
+    let ys = c.loop-number.number-items in
+    let i = c.loop-number.number-index in
+    let n = get_or ys i 0 in
+    ap (set ys i) (c.unwrap_or.ensures ∙ (ap (λ o. unwrap_or o n) c.copied.ensures ∙ c.get.ensures.lookup.4 (omega arith) n))
+    ∙ map_over_more (through c.args.remap.now) xs ys i n c.loop-number-test.true c.loop-number.invariant (get_or_default ys i 0 n (omega arith))

@@ -1,64 +1,32 @@
-use Rattle.std.proofs.Common.{false, sym, refl, ◌∙◌, arith}
-use lib.Ieee.{is_nan, of_bits, to_bits}
-use Rattle.elements.specs.Checks.{refusal}
+use Rattle.std.proofs.Common.{◌≡◌, true, false, sym, refl, ◌∙◌, arith}
+use Rattle.std.proofs.lemmas.Grind.{common_steps}
+use lib.Ieee.{of_bits, to_bits}
 use Rattle.elements.specs.Rows.{items}
-use Rattle.mesh.specs.Merges.{AllSteady}
-use Rattle.mesh.proofs.MergeRows.{steady_then}
-use Rattle.mesh.proofs.MergeAll.{lacking_at, roomy, copied_as, check_bits, all-rooms, all-blank, merged-all}
+use Rattle.mesh.specs.Lists.{zero_number}
+use Rattle.mesh.proofs.MergeAll.{lacking, lacking_is, copied_as, check_cells, check_bits, all-blank, merged-all}
 use Rattle.mesh.proofs.merge_all.merge_points.Goals as goal
 
-pub number_colours-requires : goal.number_colours-requires
-number_colours-requires g c =
-    let a = c.args.lists.now in
-    (roomy a (lacking_at a c.shorten.new.row c.shorten.ensures.steady.room false (sym c.lacks_cells.ensures ∙ c.if-lacks_cells.false))).colours
+pub returns-then-lacks_cells-clause-refused : goal.returns-then-lacks_cells-clause-refused
+returns-then-lacks_cells-clause-refused g c n t =
+    let lacks : lacking c.args.lists.now ≡ true = (let e = lacking_is c.args.lists.now in grind (arith, common_steps)) in
+    check_cells c.args.lists.now n lacks
 
-pub invariant_of-merge_lists : goal.invariant_of-merge_lists
-unfolding is_nan of_bits
-invariant_of-merge_lists g c = record { numbers = (refl, refl, refl) }
-
-pub merge_lists-requires : goal.merge_lists-requires
-merge_lists-requires g c =
+pub returns-clause-merged : goal.returns-clause-merged
+returns-clause-merged g c done ok =
     let a = c.args.lists.now in
-    let fit = (roomy a (lacking_at a c.shorten.new.row c.shorten.ensures.steady.room false (sym c.lacks_cells.ensures ∙ c.if-lacks_cells.false))).remap in
-    let r = c.shorten.ensures.steady.room in
-    record {
-      points = (c.empty.ensures.sound, c.empty.ensures.none);
-      pairs = (c.empty-2.ensures.sound, c.empty-2.ensures.none);
-      start = c.shorten.ensures.count;
-      room = omega arith;
-    }
-
-pub returns : goal.returns
-unfolding to_bits of_bits
-returns g c =
-    let a = c.args.lists.now in
-    let b = c.merge_lists.new.lists in
+    let cis = c.number_colours in
     let h = c.merge_lists.ensures in
-    let s = h.steady in
-    let cis = c.number_colours.new.colour_indices in
-    let fine = lacking_at a c.shorten.new.row c.shorten.ensures.steady.room false (sym c.lacks_cells.ensures ∙ c.if-lacks_cells.false) in
-    let all : AllSteady _ _ a b =
-    record {
-      positions = s.positions;
-      colours = s.colours;
-      textures = s.textures;
-      normals = s.normals;
-      indices = s.indices;
-      arities = s.arities;
-      colour_indices = steady_then c.number_colours.ensures.steady s.colour_indices;
-      texture_indices = s.texture_indices;
-      normal_indices = s.normal_indices;
-      remap = steady_then c.shorten.ensures.steady s.remap;
-    } in
-    record {
-      merged = λ done ok. merged-all a ok b cis
-          (copied_as a.vertex_color (items a.indices) (items a.vertex_color_indices) (items cis) c.number_colours.ensures.some c.number_colours.ensures.none)
-          (h.colours done) (h.positions done) (h.normals done) (h.textures done) s.arities;
-      refused = λ n t. check_bits a n _ _ (refusal c.merge_lists.result) fine
-          (record { points = t.points ∙ sym c.empty.ensures.capacity; pairs = t.pairs ∙ sym c.empty-2.ensures.capacity }) h.refused;
-      rooms = all-rooms _ _ a b all;
-      blank = all-blank _ _ a b all refl refl;
-      cleared = h.cleared;
-      points = record { sound = h.points.sound; none = h.points.none; capacity = h.points.capacity ∙ c.empty.ensures.capacity };
-      pairs = record { sound = h.pairs.sound; none = h.pairs.none; capacity = h.pairs.capacity ∙ c.empty-2.ensures.capacity };
-    }
+    merged-all a ok c.merge_lists.new.lists cis.new.colour_indices
+    (copied_as a.vertex_color (items a.indices) (items a.vertex_color_indices) (items cis.new.colour_indices) cis.ensures.some cis.ensures.none)
+    (h.colours done) (h.positions done) (h.normals done) (h.textures done) h.steady.arities
+
+pub returns-clause-refused : goal.returns-clause-refused
+returns-clause-refused g c n t =
+    let fine : lacking c.args.lists.now ≡ false = (let e = lacking_is c.args.lists.now in grind (arith, common_steps)) in
+    check_bits c.args.lists.now n _ _ _ fine (record { points = t.points ∙ sym c.empty.ensures.capacity; pairs = t.pairs ∙ sym c.empty-2.ensures.capacity }) c.merge_lists.ensures.refused
+
+pub returns-clause-blank : goal.returns-clause-blank
+unfolding to_bits of_bits
+returns-clause-blank g c h =
+    all-blank _ _ _ _ c.merge_lists.ensures.steady refl refl
+    (h.0, (h.1.0, c.number_colours.ensures.steady.spare zero_number refl h.1.1, h.1.2, h.1.3, c.shorten.ensures.steady.spare zero_number refl h.1.4))

@@ -1,22 +1,21 @@
-use Rattle.std.proofs.Common.{Bool, false, [], ◌∷◌, ◌++◌, Option, sym, subst}
+use Rattle.std.proofs.Common.{is_ok, arith}
 use Rattle.elements.specs.Rows.{items}
-use Rattle.mesh.specs.Single.{Becomes, attached, padded}
-use Rattle.mesh.proofs.SingleRowFacts.{becomes_more, becomes_longer, followed_longer}
+use Rattle.elements.proofs.RowFacts.{length-items}
+use Rattle.mesh.specs.Single.{padded}
+use Rattle.mesh.proofs.SingleRowFacts.{becomes_push, becomes_more, filled_more}
 use Rattle.mesh.proofs.single.attach.Goals as goal
 
-pub returns-then-fill_up : goal.returns-then-fill_up
-returns-then-fill_up g c =
+pub returns-in_ok-fill_up-in-Some : goal.returns-in_ok-fill_up-in-Some
+returns-in_ok-fill_up-in-Some g c =
     let r = c.args.row.now in
     let h = c.push.ensures in
-    let P : Option g.row.T.Denot → Type 0 = λ o. Becomes r c.push.new.self (attached c.args.number c.args.filler (items r) o) c.push.result in
-    subst P (sym c.in-Some.is)
-    (becomes_more r c.fill_up.new.row c.push.new.self (padded c.args.number c.args.filler (items r)) c.in-Some.item c.push.result c.if-fill_up.ensures h.tells h.granted h.refused)
+    rw c.in-Some.is
+    (becomes_more r c.fill_up.new.row c.push.new.self (padded c.args.number c.args.filler (items r)) c.in-Some.item (is_ok c.push.result) c.in_ok-fill_up-in-Some.ensures h.tells h.granted h.refused)
 
-pub returns-else-fill_up : goal.returns-else-fill_up
-returns-else-fill_up g c =
+pub returns-in-None : goal.returns-in-None
+returns-in-None g c =
     let r = c.args.row.now in
-    let ys = padded c.args.number c.args.filler (items r) in
-    let P : Option g.row.T.Denot → Type 0 = λ o. Becomes r c.fill_up.new.row (attached c.args.number c.args.filler (items r) o) false in
-    let Q : Bool → Type 0 = λ b. Becomes r c.fill_up.new.row (attached c.args.number c.args.filler (items r) c.args.item) b in
-    subst Q (sym c.if-fill_up.false)
-    (subst P (sym c.in-Some.is) (becomes_longer r c.fill_up.new.row ys (ys ++ c.in-Some.item ∷ []) (followed_longer ys c.in-Some.item) c.if-fill_up.ensures))
+    let h = c.push-in-None.ensures in
+    let n = length-items r in
+    rw (c.in-None.is, filled_more c.args.filler (items r) (λ e. omega arith))
+    (becomes_push r c.push-in-None.new.self c.args.filler (is_ok c.push-in-None.result) h.tells h.granted h.refused)

@@ -1,47 +1,34 @@
-use Rattle.std.proofs.Common.{refl, subst}
-use Rattle.mesh.specs.Streams.{ByNumber, Names}
-use Rattle.mesh.proofs.MultiFacts.{spare_push, placed_room, placed_spare, again_written, element-written, element-refused}
+use Rattle.std.proofs.Common.{is_ok, rules}
+use Rattle.std.proofs.lemmas.Result.{err_from_is_err_and}
+use Rattle.mesh.proofs.SingleRowFacts.{becomes_push}
+use Rattle.mesh.proofs.MultiFacts.{again_written, element-written, element-refused}
 use Rattle.mesh.proofs.stream.write.Goals as goal
 
 pub returns-in-Again : goal.returns-in-Again
 returns-in-Again g c =
     let p = c.push.ensures in
+    let h = becomes_push c.args.numbers.now c.push.new.self c.in-Again.number (is_ok c.push.result) p.tells p.granted p.refused in
     record {
-      element_room = refl;
-      number_room = p.room;
-      element_spare = λ zero? h. h;
-      number_spare = λ zero?. spare_push zero? _ _ _ _ p.granted p.refused;
-      written = λ bits xs rs m is ns h.
-          let k = subst (Names bits xs rs m ByNumber) c.in-Again.is h in
-          again_written bits xs rs m c.args.elements.now c.args.elements.now c.args.numbers.now c.push.new.self is ns
-          c.in-Again.number c.push.result k.0 k.2 p.tells p.granted k.1;
+      elements = search rules;
+      numbers = h.kept;
+      written = λ bits xs rs m is ns. rw c.in-Again.is (λ k. again_written bits xs rs m c.args.elements.now c.args.elements.now c.args.numbers.now c.push.new.self is ns k.0
+          c.in-Again.number k.2 (is_ok c.push.result) h k.1);
     }
 
-pub returns-then-place : goal.returns-then-place
-returns-then-place g c =
-    let e = c.place.ensures in
-    let p = c.push-then-place.ensures in
-    record {
-      element_room = placed_room _ _ _ _ _ e;
-      number_room = p.room;
-      element_spare = placed_spare _ _ _ _ _ e;
-      number_spare = λ zero?. spare_push zero? _ _ _ _ p.granted p.refused;
-      written = λ bits xs rs m is ns h.
-          let k = subst (Names bits xs rs m ByNumber) c.in-Element.is h in
-          element-written bits xs rs m c.args.elements.now c.place.new.elements c.args.numbers.now c.push-then-place.new.self is ns
-          c.in-Element.number c.push-then-place.result k.0 k.1 p.tells p.granted c.in-Element.item c.place.result k.2 e c.if-place.true;
-    }
+pub returns-in_err-place-in-Element-clause-written : goal.returns-in_err-place-in-Element-clause-written
+returns-in_err-place-in-Element-clause-written g c bits xs rs m is ns =
+    let p = err_from_is_err_and c.from_residual.result c.from_residual.ensures.1 in
+    rw (p.1, c.in-Element.is) (λ k. element-refused bits xs rs m c.args.elements.now c.place.new.elements c.args.numbers.now c.args.numbers.now is ns k.0
+    c.in-Element.number k.1 c.in-Element.item k.2 c.in_err-place-in-Element.ensures)
 
-pub returns-else-place : goal.returns-else-place
-returns-else-place g c =
-    let e = c.place.ensures in
+pub returns-in_ok-place-in-Element : goal.returns-in_ok-place-in-Element
+returns-in_ok-place-in-Element g c =
+    let e = c.in_ok-place-in-Element.ensures in
+    let p = c.push-in-Element.ensures in
+    let h = becomes_push c.args.numbers.now c.push-in-Element.new.self c.in-Element.number (is_ok c.push-in-Element.result) p.tells p.granted p.refused in
     record {
-      element_room = placed_room _ _ _ _ _ e;
-      number_room = refl;
-      element_spare = placed_spare _ _ _ _ _ e;
-      number_spare = λ zero? h. h;
-      written = λ bits xs rs m is ns h.
-          let k = subst (Names bits xs rs m ByNumber) c.in-Element.is h in
-          element-refused bits xs rs m c.args.elements.now c.place.new.elements c.args.numbers.now c.args.numbers.now is ns
-          c.in-Element.number c.in-Element.item c.place.result k.0 k.1 k.2 e c.if-place.false;
+      elements = e.kept;
+      numbers = h.kept;
+      written = λ bits xs rs m is ns. rw c.in-Element.is (λ k. element-written bits xs rs m c.args.elements.now c.place.new.elements c.args.numbers.now c.push-in-Element.new.self is ns k.0
+          c.in-Element.number k.1 (is_ok c.push-in-Element.result) h c.in-Element.item k.2 e);
     }

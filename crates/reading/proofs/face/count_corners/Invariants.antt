@@ -8,8 +8,7 @@ use Rattle.reading.proofs.face.count_corners.Given as goal
 
 abbrev pub invariant-loop-token : goal.invariant-loop-token
 invariant-loop-token l =
-    ((n : Counts) → more l.count (corners n (tokens_left l.tokens)) ≡ option_map length (face n l.text))
-    × (l.count + length l.tokens.rest.now ≤ length l.text)
-
-abbrev pub decreases-loop-token : goal.decreases-loop-token
-decreases-loop-token l = length l.tokens.rest.now
+    record {
+      counted : (n : Counts) → more l.count (corners n (tokens_left l.token-iterator)) ≡ option_map length (face n l.text);
+      fits : l.count + length (tokens_left l.token-iterator) ≤ length l.text;
+    }

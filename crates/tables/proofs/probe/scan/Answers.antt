@@ -1,25 +1,15 @@
-use Rattle.std.proofs.Common.{◌-◌, get_or, ◌∙◌, arith}
-use Rattle.tables.proofs.Places.{at_map}
-use Rattle.tables.proofs.Probing.{passed_more, other_key, other_past}
+use Rattle.std.proofs.Common.{◌≡◌, ◌+◌, ◌-◌, ◌<◌, ◌∙◌, rules, map, length, get_or, drop, arith}
+use Rattle.std.proofs.lemmas.List.{get_or-take, get_or-drop}
+use Rattle.tables.proofs.Probing.{passed_more, other_place}
 use Rattle.tables.proofs.probe.scan.Goals as goal
-use Rattle.tables.proofs.probe.scan.Goals.{then-place-cells+else-same, else-place-cells}
 
-pub returns-then-same : goal.returns-then-same
-returns-then-same g c = record {
-  slot = c.loop-p.p;
-  holds = omega (arith, c.if-v-eq0.false);
-  inside = c.if-place-cells.true;
-  means = at_map g.K.Key.meaning c.args.cells.now (get_or c.args.slots.now c.loop-p.p 0 - 1) c.index-cells-place.result c.if-place-cells.true c.index-cells-place.is ∙ c.if-same.ensures.0 tt;
-}
-
-pub loop-p-preserved : goal.loop-p-preserved
-loop-p-preserved g c =
+pub loop-i-preserved : goal.loop-i-preserved
+loop-i-preserved g c =
     let f = g.K.Key.meaning in
-    let m = g.K.Key.meaning c.args.key.now in
-    let ks = c.args.cells.now in
     let ss = c.args.slots.now in
-    let v = get_or c.args.slots.now c.loop-p.p 0 in
-    passed_more f m ks ss c.args.from c.loop-p.p c.loop-p.invariant (elim c.if-place-cells.branch [
-      | then-place-cells+else-same w ↦ other_key f m ks v w.index-cells-place.result c.if-v-eq0.false w.if-place-cells.true w.index-cells-place.is w.if-same.ensures.1
-      | else-place-cells w ↦ other_past f m ks v c.if-v-eq0.false w.if-place-cells.false
-    ])
+    let a = c.args.from in
+    let i = c.loop-i.i in
+    let read = get_or-take (c.args.to - a) (drop a ss) i 0 (omega arith) ∙ get_or-drop a ss i 0 in
+    let place : get_or c.args.slots.now (c.args.from + c.loop-i.i) 0 ≡ c.in-Some.place + 1 = omega (arith, read, c.in-Some.ensures) in
+    let differs : (d : _) → c.in-Some.place < length c.args.keys.now → g.K.Key.meaning (get_or c.args.keys.now c.in-Some.place d) ≡ g.K.Key.meaning c.args.key.now → ⊥ = search rules in
+    passed_more (f c.args.key.now) (map f c.args.keys.now) ss a (a + i) _ c.loop-i.invariant (omega arith) (other_place f (f c.args.key.now) c.args.keys.now (get_or ss (a + i) 0) c.in-Some.place place differs)

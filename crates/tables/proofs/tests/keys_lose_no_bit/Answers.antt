@@ -13,7 +13,3 @@ invariant_of-told_apart-2 g c = record { numbers = (refl, refl, refl) }
 pub invariant_of-told_apart-3 : goal.invariant_of-told_apart-3
 unfolding is_nan of_bits
 invariant_of-told_apart-3 g c = record { numbers = (refl, refl) }
-
-pub invariant_of-told_apart-4 : goal.invariant_of-told_apart-4
-unfolding is_nan of_bits neg
-invariant_of-told_apart-4 g c = record { numbers = (refl, refl) }

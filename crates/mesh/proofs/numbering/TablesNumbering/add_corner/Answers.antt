@@ -17,13 +17,13 @@ returns-then-options g c =
     let u = g.Nt.CornerTable.keys t.normals in
     record {
       kept = record {
-        rooms = e.rooms;
-        remap = e.remap;
-        blank = e.blank;
-        capacities = (let x = e.capacity in cc);
+        rooms = e.lists.rooms;
+        remap = e.lists.remap;
+        blank = e.lists.blank;
+        capacities = (let x = e.table.capacity in cc);
         points = refl;
         pairs = refl;
-        sound = λ s. ((e.sound s.0.0, s.0.1, s.0.2), s.1, s.2);
+        sound = λ s. ((e.table.sound s.0.0, s.0.1, s.0.2), s.1, s.2);
       };
       writes = λ s. adds_writes c.args.options (sources c.args.attributes.now) (rooms l) n c.args.vert (surface l) (surface l')
           (record { corners = g.Ct.CornerTable.keys t.corners; positions = p; textures = q; normals = u })
@@ -48,16 +48,20 @@ returns-else-options g c =
     let u' = g.Nt.CornerTable.keys a.normals in
     record {
       kept = record {
-        rooms = e.rooms;
-        remap = e.remap;
-        blank = e.blank;
-        capacities = (let x = e.capacity.0 in let y = e.capacity.1 in let z = e.capacity.2 in cc);
+        rooms = e.lists.rooms;
+        remap = e.lists.remap;
+        blank = e.lists.blank;
+        capacities = (let x = e.positions.capacity in let y = e.textures.capacity in let z = e.normals.capacity in cc);
         points = refl;
         pairs = refl;
-        sound = λ s. (let k = e.sound (s.0.1, s.0.2, s.1.0) in ((s.0.0, k.0, k.1), (k.2, s.1.1, s.1.2), e.within (s.0.2, s.1.0) s.2));
+        sound = λ s. (
+          (s.0.0, e.positions.sound s.0.1, e.textures.sound s.0.2),
+          (e.normals.sound s.1.0, s.1.1, s.1.2),
+          (e.textures.within s.0.2 s.2.0, e.normals.within s.1.0 s.2.1),
+        );
       };
       writes = λ s. adds_writes c.args.options (sources c.args.attributes.now) (rooms l) n c.args.vert (surface l) (surface a.lists)
           (record { corners = k; positions = p; textures = q; normals = u }) (record { corners = k; positions = p'; textures = q'; normals = u' }) c.add_vertex_multi_index.result
           (multi_adds c.args.options (sources c.args.attributes.now) (rooms l) n c.args.vert (surface l) (surface a.lists)
-          k k p p' q q' u u' c.add_vertex_multi_index.result c.if-options.false (e.adds (s.0.1, s.0.2, s.1.0) s.2 n (refl, refl, refl) []));
+          k k p p' q q' u u' c.add_vertex_multi_index.result c.if-options.false (e.adds n (record { capacities = (refl, refl, refl); sound = (s.0.1, s.0.2, s.1.0); within = s.2 }) []));
     }

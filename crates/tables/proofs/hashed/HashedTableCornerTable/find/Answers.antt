@@ -1,30 +1,12 @@
-use Rattle.std.proofs.Common.{vec_items}
-use Rattle.tables.proofs.Probing.{hashed_fit, found_found, free_found, past_found}
+use Rattle.tables.proofs.Places.{meanings_fit}
+use Rattle.tables.proofs.Probing.{found_found, probed_none}
 use Rattle.tables.proofs.hashed.HashedTableCornerTable.find.Goals as goal
 
-pub returns-in-Found : goal.returns-in-Found
-returns-in-Found g c =
-    let f = g.K.Key.meaning in
-    let d = g.K.Key.digest in
-    let n = c.args.self.now.held.count in
-    let ks = vec_items c.args.self.now.held.cells in
-    let ss = vec_items c.args.self.now.slots in
-    record { fit = hashed_fit f d n ks ss; found = found_found f d (f c.args.key.now) n ks ss c.in-Found.place c.in-Found.ensures }
+pub returns-in-Found-clause-found : goal.returns-in-Found-clause-found
+returns-in-Found-clause-found g c = found_found _ _ _ _ _ c.in-Found.ensures
 
-pub returns-in-Free : goal.returns-in-Free
-returns-in-Free g c =
-    let f = g.K.Key.meaning in
-    let d = g.K.Key.digest in
-    let n = c.args.self.now.held.count in
-    let ks = vec_items c.args.self.now.held.cells in
-    let ss = vec_items c.args.self.now.slots in
-    record { fit = hashed_fit f d n ks ss; found = free_found f d (f c.args.key.now) n ks ss c.in-Free.field-0 c.in-Free.ensures }
-
-pub returns-in-Past : goal.returns-in-Past
-returns-in-Past g c =
-    let f = g.K.Key.meaning in
-    let d = g.K.Key.digest in
-    let n = c.args.self.now.held.count in
-    let ks = vec_items c.args.self.now.held.cells in
-    let ss = vec_items c.args.self.now.slots in
-    record { fit = hashed_fit f d n ks ss; found = past_found f d (f c.args.key.now) n ks ss c.in-Past.ensures }
+pub returns-in_default : goal.returns-in_default
+returns-in_default g c = record {
+  fit = λ s. meanings_fit g.K.Key.meaning c.args.self.now.held s.apart;
+  found = probed_none _ _ _ _ c.look.result c.look.ensures c.in_default.not-Found;
+}
