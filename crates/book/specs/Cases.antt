@@ -22,13 +22,13 @@ abbrev pub plain : LoadOptions
 plain = record { single_index = false; triangulate = false; ignore_points = false; ignore_lines = false; merge_identical_points = false }
 
 abbrev pub triangulated : LoadOptions
-triangulated = record { single_index = false; triangulate = true; ignore_points = false; ignore_lines = false; merge_identical_points = false }
+triangulated = record plain { triangulate = true }
 
 abbrev pub single_index : LoadOptions
-single_index = record { single_index = true; triangulate = false; ignore_points = false; ignore_lines = false; merge_identical_points = false }
+single_index = record plain { single_index = true }
 
 abbrev pub merging : LoadOptions
-merging = record { single_index = false; triangulate = false; ignore_points = false; ignore_lines = false; merge_identical_points = true }
+merging = record plain { merge_identical_points = true }
 
 -- ---- books
 

@@ -1,7 +1,6 @@
 #![tactic(auto, using(crate::proofs::StoreFacts::map_added))]
 
 ghost use Rattle.std.specs.Prelude.{◌≡◌, [], ◌∷◌, MatchResult, nat_le, is_ok};
-ghost use Rattle.elements.specs.declared.error.LoadError.TheVariants.{BookFull};
 ghost use Rattle.elements.specs.Bits.{point_bits, pair_bits, triple_bits, double_bits};
 ghost use Rattle.elements.specs.Cells.{added};
 ghost use Rattle.elements.specs.Checks.{refusal, first};
@@ -44,15 +43,19 @@ impl Book {
         }
     }
 
-    // kept: a method for each kind of element, since each has its own list and its own request in the contract
     // One position more.
+    // kept: a method for each kind of element, since each has its own list and its own request in the contract
     pub fn position(&mut self, x: f32, y: f32, z: f32) -> Result<(), LoadError>
         ensures rooms { rooms_of self.new ≡ rooms_of self.old }
         ensures does { Follows (rooms_of self.old) (contained self.old) (add_position x y z) (told result) (contained self.new) }
         ensures cells { Stores point_bits result self.old.attributes.positions self.new.attributes.positions (triple_bits x y z) }
         ensures others { self.new ≡ with_positions self.old self.new.attributes.positions }
     {
-        store(&mut self.attributes.positions, Point::new(x, y, z)?)
+        push_or(
+            &mut self.attributes.positions,
+            Point::new(x, y, z)?,
+            LoadError::BookFull,
+        )
     }
 
     // One colour more: it belongs to the position of the same number.
@@ -62,7 +65,11 @@ impl Book {
         ensures cells { Stores point_bits result self.old.attributes.colours self.new.attributes.colours (triple_bits x y z) }
         ensures others { self.new ≡ with_colours self.old self.new.attributes.colours }
     {
-        store(&mut self.attributes.colours, Point::new(x, y, z)?)
+        push_or(
+            &mut self.attributes.colours,
+            Point::new(x, y, z)?,
+            LoadError::BookFull,
+        )
     }
 
     // One texture more.
@@ -72,7 +79,11 @@ impl Book {
         ensures cells { Stores pair_bits result self.old.attributes.textures self.new.attributes.textures (double_bits u v) }
         ensures others { self.new ≡ with_textures self.old self.new.attributes.textures }
     {
-        store(&mut self.attributes.textures, Pair::new(u, v)?)
+        push_or(
+            &mut self.attributes.textures,
+            Pair::new(u, v)?,
+            LoadError::BookFull,
+        )
     }
 
     // One normal more.
@@ -82,16 +93,20 @@ impl Book {
         ensures cells { Stores point_bits result self.old.attributes.normals self.new.attributes.normals (triple_bits x y z) }
         ensures others { self.new ≡ with_normals self.old self.new.attributes.normals }
     {
-        store(&mut self.attributes.normals, Point::new(x, y, z)?)
+        push_or(
+            &mut self.attributes.normals,
+            Point::new(x, y, z)?,
+            LoadError::BookFull,
+        )
     }
 }
 
-// One element more in a list, if a cell is left for it.
-fn store<T: Copy>(row: &mut Row<T>, item: T) -> Result<(), LoadError>
-    ensures refused { refusal result ≡ first ((nat_le (room row.old) row.old.count, BookFull) ∷ []) }
+// One element more in a list, or this refusal if no cell is left for it.
+pub(crate) fn push_or<T: Copy>(row: &mut Row<T>, item: T, error: LoadError) -> Result<(), LoadError>
+    ensures refused { refusal result ≡ first ((nat_le (room row.old) row.old.count, error) ∷ []) }
     ensures cells { held row.new ≡ added (is_ok result) (held row.old) row.old.count item }
     ensures stored { MatchResult result (λ _. Pushed row.old row.new item) (λ _. row.new ≡ row.old) }
     ensures room { room row.new ≡ room row.old }
 {
-    row.push(item).map_err(|_| LoadError::BookFull)
+    row.push(item).map_err(|_| error)
 }

@@ -2,6 +2,7 @@ use elements::error::LoadError;
 use elements::options::LoadOptions;
 
 // A call on a book, with its arguments.
+// kept: an enum of calls and no closures, since a tape holds them as data
 #[derive(Clone, Copy, PartialEq, Debug)]
 pub enum Call<'a> {
     Position(f32, f32, f32),
@@ -13,6 +14,7 @@ pub enum Call<'a> {
 }
 
 // What a granted call answers.
+// kept: an enum and no `Option`, so that what was done has a name
 #[derive(Clone, Copy, PartialEq, Eq, Debug)]
 pub enum Reply {
     Done,

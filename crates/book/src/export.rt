@@ -18,7 +18,7 @@ use mesh::numbering::Numbering;
 impl Book {
     // The mesh of all waiting faces: answers how many were written and how many were skipped, and nothing waits any more.
     // A refused export leaves the book as it was.
-    // kept: a tuple inside Ok, by a rule of the project
+    // kept: a tuple inside Ok, a form that the project asks for
     pub fn export<N: Numbering>(
         &mut self,
         options: LoadOptions,

@@ -6,6 +6,7 @@ ghost use Rattle.elements.specs.Rows.{held, items, room, Pushed};
 ghost use Rattle.book.specs.Held.{contained};
 ghost use Rattle.book.specs.Unnamed.{named_among, others, unnamed_checks, Unnames, Lists};
 
+use crate::attribute::push_or;
 use crate::book::Book;
 use elements::corner::VertexIndices;
 use elements::error::LoadError;
@@ -100,18 +101,8 @@ fn list_others<T: CornerTable<Reference>>(
 {
     for at in 0..positions {
         if named.find(&Reference { at }).is_none() {
-            push_number(list, at)?;
+            push_or(list, at as u32, LoadError::MeshFull)?;
         }
     }
     Ok(())
-}
-
-// One number more in a list, if a cell is left for it.
-fn push_number(list: &mut Row<u32>, at: usize) -> Result<(), LoadError>
-    requires { at < 16777216 }
-    ensures refused { refusal result ≡ first ((nat_le (room list.old) list.old.count, MeshFull) ∷ []) }
-    ensures stored { MatchResult result (λ _. Pushed list.old list.new at) (λ _. list.new ≡ list.old) }
-    ensures room { room list.new ≡ room list.old }
-{
-    list.push(at as u32).map_err(|_| LoadError::MeshFull)
 }

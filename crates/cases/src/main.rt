@@ -19,7 +19,7 @@ use tables::hashed::HashedTable;
 use tables::key::{Key, Reference};
 use tables::searched::SearchedTable;
 
-// How many places each list has, and each table but that of the corners.
+// How many places each list and each table has, but where a case gives its table of corners fewer.
 const PLACES: usize = 16;
 
 const PLAIN: LoadOptions = LoadOptions {
@@ -88,20 +88,21 @@ fn case_tables(heap: Global, corners: usize) -> Result<CaseTables, AllocError> {
     })
 }
 
-// The elements of a case go into its book; their calls are granted, as there are fewer than cells.
-fn fill(book: &mut Book, held: Held) {
+// The elements of a case go into its book.
+fn fill(book: &mut Book, held: Held) -> Result<(), LoadError> {
     for i in 0..held.positions {
-        let _ = book.position(f32::from(i), 0.0, 0.0);
+        book.position(f32::from(i), 0.0, 0.0)?;
     }
     for i in 0..held.colours {
-        let _ = book.colour(f32::from(i), 0.0, 0.0);
+        book.colour(f32::from(i), 0.0, 0.0)?;
     }
     for i in 0..held.textures {
-        let _ = book.texture(f32::from(i), 0.5);
+        book.texture(f32::from(i), 0.5)?;
     }
     for i in 0..held.normals {
-        let _ = book.normal(0.0, 0.0, f32::from(i));
+        book.normal(0.0, 0.0, f32::from(i))?;
     }
+    Ok(())
 }
 
 // The number of an answer: 0 where the call was granted.
@@ -133,43 +134,54 @@ fn print_mesh(rt: &HostRuntime, mesh: &Mesh) -> anyhow::Result<()> {
     print_numbers(rt, "colour indices", &lists.vertex_color_indices)
 }
 
-// One case: these texts into a book, and an export of it.
-fn export_case(
-    rt: &HostRuntime,
-    name: &str,
-    book: &mut Book,
+// Faces for a book, and an export of it by a table of corners with so many places.
+#[derive(Clone, Copy)]
+struct Case<'a> {
+    name: &'a str,
     corners: usize,
-    texts: &[&[u8]],
+    texts: &'a [&'a [u8]],
     options: LoadOptions,
-) -> anyhow::Result<()> {
-    let heap = rt.alloc();
-    let mut mesh = blank_mesh(heap, PLACES)?;
-    let mut tables = case_tables(heap, corners)?;
-    println!(rt; "{name}")?;
-    for text in texts {
-        let answer = number(obey(book, &mut mesh, &mut tables, Call::Face(text)));
-        println!(rt; "  face {answer}")?;
-    }
-    let answer = obey(book, &mut mesh, &mut tables, Call::Export(options, None));
-    println!(rt; "  export {}", number(answer))?;
-    if let Ok(Reply::Exported(written, skipped)) = answer {
-        println!(rt; "  written {written} skipped {skipped}")?;
-        print_mesh(rt, &mesh)?;
-    }
-    Ok(())
 }
 
-fn held_case(
-    rt: &HostRuntime,
-    name: &str,
-    held: Held,
-    corners: usize,
-    texts: &[&[u8]],
-    options: LoadOptions,
-) -> anyhow::Result<()> {
-    let mut book = blank_book(rt.alloc(), PLACES)?;
-    fill(&mut book, held);
-    export_case(rt, name, &mut book, corners, texts, options)
+impl<'a> Case<'a> {
+    fn new(name: &'a str, texts: &'a [&'a [u8]], options: LoadOptions) -> Self {
+        Case {
+            name,
+            corners: PLACES,
+            texts,
+            options,
+        }
+    }
+
+    // The case on a book of its own that holds these elements.
+    fn run(&self, rt: &HostRuntime, held: Held) -> anyhow::Result<()> {
+        let mut book = blank_book(rt.alloc(), PLACES)?;
+        fill(&mut book, held)?;
+        self.export(rt, &mut book)
+    }
+
+    fn export(&self, rt: &HostRuntime, book: &mut Book) -> anyhow::Result<()> {
+        let heap = rt.alloc();
+        let mut mesh = blank_mesh(heap, PLACES)?;
+        let mut tables = case_tables(heap, self.corners)?;
+        println!(rt; "{}", self.name)?;
+        for text in self.texts {
+            let answer = number(obey(book, &mut mesh, &mut tables, Call::Face(text)));
+            println!(rt; "  face {answer}")?;
+        }
+        let answer = obey(
+            book,
+            &mut mesh,
+            &mut tables,
+            Call::Export(self.options, None),
+        );
+        println!(rt; "  export {}", number(answer))?;
+        if let Ok(Reply::Exported(written, skipped)) = answer {
+            println!(rt; "  written {written} skipped {skipped}")?;
+            print_mesh(rt, &mesh)?;
+        }
+        Ok(())
+    }
 }
 
 // A token read on its own, with three elements of each kind.
@@ -212,12 +224,12 @@ fn unfolding_cases(rt: &HostRuntime) -> anyhow::Result<()> {
         positions: 4,
         ..THREE
     };
-    held_case(rt, "reference 0", THREE, 16, &[b"0"], PLAIN)?;
-    held_case(rt, "a fan", four, 16, &[b"1 2 3 4"], TRIANGLES)?;
-    held_case(rt, "a point", THREE, 16, &[b"2"], TRIANGLES)?;
-    held_case(rt, "a line", THREE, 16, &[b"1 2"], TRIANGLES)?;
-    held_case(rt, "no corners, triangulated", THREE, 16, &[b""], TRIANGLES)?;
-    held_case(rt, "no corners", THREE, 16, &[b""], PLAIN)
+    Case::new("reference 0", &[b"0"], PLAIN).run(rt, THREE)?;
+    Case::new("a fan", &[b"1 2 3 4"], TRIANGLES).run(rt, four)?;
+    Case::new("a point", &[b"2"], TRIANGLES).run(rt, THREE)?;
+    Case::new("a line", &[b"1 2"], TRIANGLES).run(rt, THREE)?;
+    Case::new("no corners, triangulated", &[b""], TRIANGLES).run(rt, THREE)?;
+    Case::new("no corners", &[b""], PLAIN).run(rt, THREE)
 }
 
 fn numbering_cases(rt: &HostRuntime) -> anyhow::Result<()> {
@@ -233,65 +245,53 @@ fn numbering_cases(rt: &HostRuntime) -> anyhow::Result<()> {
         colours: 1,
         ..THREE
     };
-    held_case(
-        rt,
+    Case::new(
         "normals apart",
-        THREE,
-        16,
         &[b"1//1 2//1 3//1", b"1//2 3//2 2//2"],
         SINGLE,
-    )?;
-    held_case(
-        rt,
-        "fillers",
-        THREE,
-        16,
-        &[b"1 2 3", b"1/1 2/2 3/3"],
-        SINGLE,
-    )?;
-    held_case(rt, "carried over", two_textures, 16, &[b"1 2/2 3"], PLAIN)?;
-    held_case(rt, "a third corner", THREE, 2, &[b"1 2 3"], SINGLE)?;
-    held_case(rt, "the first corner again", THREE, 2, &[b"1 2 1"], SINGLE)?;
-    held_case(
-        rt,
-        "a normal far out",
-        two_normals,
-        16,
-        &[b"1//6148914691236517207"],
-        PLAIN,
-    )?;
-    held_case(rt, "one colour", one_colour, 16, &[b"1 2 3"], PLAIN)
+    )
+    .run(rt, THREE)?;
+    Case::new("fillers", &[b"1 2 3", b"1/1 2/2 3/3"], SINGLE).run(rt, THREE)?;
+    Case::new("carried over", &[b"1 2/2 3"], PLAIN).run(rt, two_textures)?;
+    Case {
+        corners: 2,
+        ..Case::new("a third corner", &[b"1 2 3"], SINGLE)
+    }
+    .run(rt, THREE)?;
+    Case {
+        corners: 2,
+        ..Case::new("the first corner again", &[b"1 2 1"], SINGLE)
+    }
+    .run(rt, THREE)?;
+    Case::new("a normal far out", &[b"1//6148914691236517207"], PLAIN).run(rt, two_normals)?;
+    Case::new("one colour", &[b"1 2 3"], PLAIN).run(rt, one_colour)
 }
 
 // Points that agree bit for bit are merged; 0 and -0 do not agree.
 fn merging_case(rt: &HostRuntime) -> anyhow::Result<()> {
     let mut book = blank_book(rt.alloc(), PLACES)?;
-    let _ = book.position(0.0, 0.0, 0.0);
-    let _ = book.position(-0.0, 0.0, 0.0);
-    let _ = book.position(0.0, 0.0, 0.0);
-    export_case(rt, "0 and -0", &mut book, 16, &[b"1 2 3"], MERGED)
+    book.position(0.0, 0.0, 0.0)?;
+    book.position(-0.0, 0.0, 0.0)?;
+    book.position(0.0, 0.0, 0.0)?;
+    Case::new("0 and -0", &[b"1 2 3"], MERGED).export(rt, &mut book)
 }
 
 // Positions that merge while the colours beside them do not.
 fn colours_case(rt: &HostRuntime) -> anyhow::Result<()> {
     let mut book = blank_book(rt.alloc(), PLACES)?;
-    let _ = book.position(5.0, 0.0, 0.0);
-    let _ = book.position(6.0, 0.0, 0.0);
-    let _ = book.position(5.0, 0.0, 0.0);
-    let _ = book.colour(1.0, 0.0, 0.0);
-    let _ = book.colour(0.0, 1.0, 0.0);
-    let _ = book.colour(0.0, 0.0, 1.0);
-    export_case(rt, "colours apart", &mut book, 16, &[b"1 2 3"], MERGED)
-}
-
-fn run(rt: &HostRuntime) -> anyhow::Result<()> {
-    reading_cases(rt)?;
-    unfolding_cases(rt)?;
-    numbering_cases(rt)?;
-    merging_case(rt)?;
-    colours_case(rt)
+    book.position(5.0, 0.0, 0.0)?;
+    book.position(6.0, 0.0, 0.0)?;
+    book.position(5.0, 0.0, 0.0)?;
+    book.colour(1.0, 0.0, 0.0)?;
+    book.colour(0.0, 1.0, 0.0)?;
+    book.colour(0.0, 0.0, 1.0)?;
+    Case::new("colours apart", &[b"1 2 3"], MERGED).export(rt, &mut book)
 }
 
 fn main(rt: HostRuntime) -> anyhow::Result<()> {
-    run(&rt)
+    reading_cases(&rt)?;
+    unfolding_cases(&rt)?;
+    numbering_cases(&rt)?;
+    merging_case(&rt)?;
+    colours_case(&rt)
 }

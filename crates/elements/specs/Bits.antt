@@ -1,5 +1,7 @@
 -- Elements by their bits: a number of 32 bits for each f32, so that 0 and -0 are told apart.
 --   number_bits    the bits of one f32
+--   triple_bits    those of three numbers
+--   double_bits    those of two
 --   point_bits     those of a position, a colour or a normal
 --   pair_bits      those of a texture
 use Rattle.std.specs.Prelude.{ℕ, List, [], ◌∷◌, to_bits, Float}

@@ -1,6 +1,7 @@
 -- A list kept in cells: the first so many of them.
 --   room_of n      how many elements n cells have room for
---   Added          one element more was written, or nothing changed
+--   added          one element more was written, or nothing changed
+--   blanked        one element in every cell that a list may use
 use Rattle.std.specs.Prelude.{ℕ, min, Bool, if◌then◌else◌, List, ◌++◌, length, drop, replicate, slice_set}
 
 -- cells past the first 16,777,216 are never touched

@@ -2,6 +2,7 @@
 --   held r       what stands in its cells
 --   items r      the list that it holds
 --   room r       how many elements it has room for
+--   roomy r      a cell is left for one element more
 --   Pushed       an element was added after the others, in the next cell, and no other cell was touched
 use Rattle.std.specs.Prelude.{◌≡◌, ℕ, ◌+◌, Bool, List, [], ◌∷◌, ◌++◌, length, take, vec_items, nat_lt, slice_set}
 use Rattle.elements.specs.declared.row.Row.{Row}

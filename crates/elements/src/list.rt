@@ -1,5 +1,8 @@
-ghost use Rattle.std.specs.Prelude.{◌≡◌, ◌+◌, ◌<◌, ◌≤◌, min, length, is_ok, Some, None, MatchOption, nat_lt, slice_index_or};
+ghost use Rattle.std.specs.Prelude.{◌≡◌, ◌+◌, ◌<◌, ◌≤◌, min, length, replicate, is_ok, Some, None, MatchOption, nat_lt, slice_index_or};
 ghost use Rattle.elements.specs.Cells.{room_of as most_of, added, blanked};
+
+use std::error::Error;
+use std::fmt;
 
 // The most elements that a list has, however many cells it is lent.
 pub const MOST: usize = 16_777_216;
@@ -8,7 +11,15 @@ pub const MOST: usize = 16_777_216;
 #[derive(Clone, Copy, PartialEq, Eq, Debug)]
 pub struct Full;
 
-// kept: functions over lent cells and a count, so that any memory can hold a list.
+impl fmt::Display for Full {
+    fn fmt<W: fmt::Write>(&self, f: &mut fmt::Formatter<W>) -> fmt::Result {
+        f.write_str("the list has no cell left")
+    }
+}
+
+impl Error for Full {}
+
+// kept: functions over lent cells and a count, a form that the project asks for: any memory can hold a list.
 
 // How many elements `cells` cells have room for.
 pub fn room_of(cells: usize) -> usize
@@ -34,8 +45,16 @@ pub fn clear<T: Copy>(cells: &mut [T], blank: T)
     ensures { cells.new ≡ blanked cells.old blank }
 {
     let room = room_of(cells.len());
-    for cell in cells[..room].iter_mut() {
-        *cell = blank;
+    fill(&mut cells[..room], blank);
+}
+
+// Writes `item` into every cell.
+// kept: a loop, since the slice's own `fill` asks of a clone what `Copy` does not say
+pub fn fill<T: Copy>(cells: &mut [T], item: T)
+    ensures { cells.new ≡ replicate (length cells.old) item }
+{
+    for cell in cells.iter_mut() {
+        *cell = item;
     }
 }
 

@@ -1,7 +1,7 @@
 ghost use Rattle.std.specs.Prelude.{◌≡◌, false, is_nan};
 
 // A position, a colour or a normal: three numbers, none of them NaN.
-// kept: two structs with names for their numbers and no array of `N`; what is done with elements is generic over both
+// kept: two structs of f32 and no array of `N`, a form that the project asks for
 #[derive(Clone, Copy, Debug)]
 pub struct Point {
     pub x: f32,

@@ -1,7 +1,7 @@
 ghost use Rattle.std.specs.Prelude.{◌≤◌, min, length};
 
 // A list with the cells that it was handed: the first `count` of them.
-// kept: a count beside the cells, since a list never grows past the memory that it was handed
+// kept: a count beside the cells, since no list asks for memory, and contracts speak of the cells past the count, which stay
 #[derive(Drop)]
 pub struct Row<T> {
     pub cells: Vec<T>,

@@ -6,7 +6,6 @@ pub mod SingleFacts
 pub mod MultiFacts
 pub mod MultiStepFacts
 pub mod MergeFacts
-pub mod MergeStart
 pub mod MergeRows
 pub mod MergeWalk
 pub mod MergeAll

@@ -16,8 +16,8 @@ use Rattle.mesh.specs.declared.lists.Lists.{Lists}
 use Rattle.mesh.specs.Surface.{Capacities, over}
 use Rattle.mesh.specs.Lists.{surface, rooms, Blank, Spare, zero_point, zero_pair, zero_number}
 use Rattle.mesh.specs.Numbering.{some}
-use Rattle.mesh.specs.Merging.{renumbered, merged, longest, merge_checks}
-use Rattle.mesh.specs.Merges.{Within, most, bit_checks, AllSteady, RowsMerged, Mergeable, TablesFor}
+use Rattle.mesh.specs.Merging.{renumbered, merged, longest, merge_checks, bit_checks}
+use Rattle.mesh.specs.Merges.{Within, most, AllSteady, RowsMerged, Mergeable, TablesFor}
 use Rattle.mesh.proofs.MergeFacts.{renumbered-through}
 
 -- ---- what merging lacks

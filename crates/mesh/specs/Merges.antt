@@ -4,7 +4,6 @@
 --   looked_up ms ns  each of ns becomes that
 --   too_many k xs    the refusal of a table with room for k keys, if xs has more different elements
 --   most l           how many elements the longest of the lists l has that are merged
---   bit_checks       what stands in the way of merging each list, where p and q are the tables' capacities
 --   Steady b r s     s has the room of r, and if the cells past the list of r are zero by some test that b passes, so are those past that of s
 --   Cut r s n b      s is the first n elements of r; b fills the cells of the others
 --   FirstsKept       the first occurrences close up at the front of the cells, and each element has its number
@@ -24,6 +23,7 @@ use Rattle.elements.specs.declared.error.LoadError.TheVariants.{TableFull}
 use Rattle.elements.specs.Checks.{first}
 use Rattle.elements.specs.First.{distinct, numbers}
 use Rattle.elements.specs.Rows.{items, room}
+use Rattle.tables.specs.declared.table.CornerTable.{Ghosts}
 use Rattle.mesh.specs.declared.lists.Lists.{Lists}
 use Rattle.mesh.specs.Surface.{Surface, Capacities, over}
 use Rattle.mesh.specs.Lists.{Spare}
@@ -43,14 +43,6 @@ too_many k xs = first ((over k (distinct xs), TableFull) ∷ [])
 
 abbrev pub most : Lists → ℕ
 most l = max l.positions.count (max l.vertex_color.count (max l.normals.count l.texcoords.count))
-
-abbrev pub bit_checks : ℕ → ℕ → Surface → List (Bool × LoadError)
-bit_checks p q m =
-    (over p (distinct m.colours), TableFull)
-    ∷ (over p (distinct m.positions), TableFull)
-    ∷ (over p (distinct m.normals), TableFull)
-    ∷ (over q (distinct m.textures), TableFull)
-    ∷ []
 
 module _ {X : Type 0} where
   pub record Steady (b : X) (r s : Row X) : Type 0 where
@@ -97,13 +89,15 @@ pub record TablesFor (n : Capacities) (p q : ℕ) : Type 0 where
   pub points : n.points ≡ p
   pub pairs : n.pairs ≡ q
 
-pub record Fresh (Sound : Type 0) (keys : List (List ℕ)) (r : Row ℕ) (n : ℕ) : Type 0 where
-  pub sound : Sound
-  pub none : keys ≡ []
-  pub start : r.count ≡ 0
-  pub room : n ≤ room r
+-- a table with the words T
+module _ {X K : Type 0} (T : Ghosts X K) where
+  pub record Fresh (t : X) (r : Row ℕ) (n : ℕ) : Type 0 where
+    pub sound : T.sound t
+    pub none : T.keys t ≡ []
+    pub start : r.count ≡ 0
+    pub room : n ≤ room r
 
-pub record Emptied (Sound : Type 0) (keys : List (List ℕ)) (before after : ℕ) : Type 0 where
-  pub sound : Sound
-  pub none : keys ≡ []
-  pub capacity : after ≡ before
+  pub record Emptied (t t' : X) : Type 0 where
+    pub sound : T.sound t'
+    pub none : T.keys t' ≡ []
+    pub capacity : T.capacity t' ≡ T.capacity t

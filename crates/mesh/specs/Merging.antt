@@ -13,13 +13,12 @@ renumbered xs ns = map (λ n. place (distinct xs) (slice_index_or xs n [])) ns
 
 abbrev pub merged : Surface → Surface
 merged m =
-    record {
+    record m {
       positions = distinct m.positions;
       colours = distinct m.colours;
       textures = distinct m.textures;
       normals = distinct m.normals;
       indices = renumbered m.positions m.indices;
-      arities = m.arities;
       colour_indices = (if some m.colours then renumbered m.colours m.indices else []);
       texture_indices = renumbered m.textures m.texture_indices;
       normal_indices = renumbered m.normals m.normal_indices;
@@ -29,12 +28,16 @@ merged m =
 abbrev pub longest : Surface → ℕ
 longest m = max (length m.positions) (max (length m.colours) (max (length m.normals) (length m.textures)))
 
+-- what stands in the way of merging each list of m, where p and q are the capacities of the bit tables
+abbrev pub bit_checks : ℕ → ℕ → Surface → List (Bool × LoadError)
+bit_checks p q m =
+    (over p (distinct m.colours), TableFull)
+    ∷ (over p (distinct m.positions), TableFull)
+    ∷ (over p (distinct m.normals), TableFull)
+    ∷ (over q (distinct m.textures), TableFull)
+    ∷ []
+
 -- what stands in the way of merging m: cells of the remap list or of the colour indices, then places of the bit tables
 abbrev pub merge_checks : Rooms → Capacities → Surface → List (Bool × LoadError)
 merge_checks rs n m =
-    (nat_lt rs.remap (longest m) || some m.colours && over rs.colour_indices m.indices, MeshFull)
-    ∷ (over n.points (distinct m.colours), TableFull)
-    ∷ (over n.points (distinct m.positions), TableFull)
-    ∷ (over n.points (distinct m.normals), TableFull)
-    ∷ (over n.pairs (distinct m.textures), TableFull)
-    ∷ []
+    (nat_lt rs.remap (longest m) || some m.colours && over rs.colour_indices m.indices, MeshFull) ∷ bit_checks n.points n.pairs m

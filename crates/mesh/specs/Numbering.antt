@@ -146,18 +146,7 @@ abbrev pub numbered : LoadOptions → Sources → List VertexIndices → Surface
 numbered o s cs = if o.single_index then single s cs else multi s cs
 
 abbrev pub with_arities : List ℕ → Surface → Surface
-with_arities ns m =
-    record {
-      positions = m.positions;
-      colours = m.colours;
-      textures = m.textures;
-      normals = m.normals;
-      indices = m.indices;
-      arities = ns;
-      colour_indices = m.colour_indices;
-      texture_indices = m.texture_indices;
-      normal_indices = m.normal_indices;
-    }
+with_arities ns m = record m { arities = ns }
 
 abbrev pub drawn : LoadOptions → Sources → List Event → Surface
 drawn o s es = with_arities (arities_of es) (numbered o s (corners_of es))

@@ -60,7 +60,7 @@ Used n ns = (j : ℕ) → j < n → (i : ℕ) × (i < length ns) × (slice_index
 
 -- the sources of which a log knows: colours are not kept in it
 abbrev pub colourless : Sources → Sources
-colourless s = record { positions = s.positions; colours = []; textures = s.textures; normals = s.normals }
+colourless s = record s { colours = [] }
 
 -- ---- the promise
 

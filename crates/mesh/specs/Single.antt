@@ -110,29 +110,13 @@ pub record Settles (p q : Lists) (m : Surface) (b : Bool) : Type 0 where
   pub granted : b ≡ true → surface q ≡ m
 
 abbrev pub numbered_again : Surface → ℕ → Surface
-numbered_again m i =
-    record {
-      positions = m.positions;
-      colours = m.colours;
-      textures = m.textures;
-      normals = m.normals;
-      indices = m.indices ++ i ∷ [];
-      arities = m.arities;
-      colour_indices = m.colour_indices;
-      texture_indices = m.texture_indices;
-      normal_indices = m.normal_indices;
-    }
+numbered_again m i = record m { indices = m.indices ++ i ∷ [] }
 
 abbrev pub widened : Surface → Vertex → Surface
 widened m v =
-    record {
+    record m {
       positions = m.positions ++ point_bits v.position ∷ [];
       colours = followed m.colours (bits_of point_bits v.colour);
       textures = attached (length m.positions) (0 ∷ 0 ∷ []) m.textures (bits_of pair_bits v.texture);
       normals = attached (length m.positions) (0 ∷ 0 ∷ 0 ∷ []) m.normals (bits_of point_bits v.normal);
-      indices = m.indices;
-      arities = m.arities;
-      colour_indices = m.colour_indices;
-      texture_indices = m.texture_indices;
-      normal_indices = m.normal_indices;
     }

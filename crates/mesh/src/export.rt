@@ -15,6 +15,7 @@ use elements::waiting::Waiting;
 
 // Writes the waiting faces into the mesh, and answers how many it wrote and how many it skipped. A refused export leaves the mesh
 // cleared and the tables empty.
+// kept: a tuple inside Ok, a form that the project asks for
 pub fn export<N: Numbering>(
     attributes: &Attributes,
     waiting: &Waiting,

@@ -1,17 +1,17 @@
 #![tactic(auto)]
 
 pub mod cells;
-pub(crate) mod clear;
+mod clear;
 pub mod export;
 pub mod lists;
-pub(crate) mod merge;
-pub(crate) mod merge_all;
+mod merge;
+mod merge_all;
 pub mod mesh;
 pub mod meshes;
-pub(crate) mod multi;
+mod multi;
 pub mod numbering;
-pub(crate) mod single;
+mod single;
 pub mod six_tables;
-pub(crate) mod stream;
-pub(crate) mod trim;
-pub(crate) mod unfold;
+mod stream;
+mod trim;
+mod unfold;

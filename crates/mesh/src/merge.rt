@@ -4,6 +4,7 @@ ghost use Rattle.elements.specs.Rows.{items};
 ghost use Rattle.mesh.specs.Merges.{looked_up, too_many, Fresh, Emptied, Steady, Cut, FirstsKept, RowsMerged};
 
 use elements::error::LoadError;
+use elements::list;
 use elements::row::Row;
 use tables::key::Key;
 use tables::table::CornerTable;
@@ -17,16 +18,16 @@ pub(crate) fn merge_identical_points<E: Key, T: CornerTable<E>>(
     table: &mut T,
     blank: E,
 ) -> Result<(), LoadError>
-    requires { Fresh (T.CornerTable.sound table.old) (T.CornerTable.keys table.old) remap.old points.old.count }
+    requires { Fresh T.CornerTable table.old remap.old points.old.count }
     ensures merged { is_ok result ≡ true → RowsMerged E.Key.meaning points.old points.new indices.old indices.new }
     ensures refused { refusal result ≡ too_many (T.CornerTable.capacity table.old) (map E.Key.meaning (items points.old)) }
     ensures points { Steady blank points.old points.new }
     ensures indices { Steady 0 indices.old indices.new }
     ensures remap { Steady 0 remap.old remap.new }
     ensures cleared { remap.new.count ≡ 0 }
-    ensures table { Emptied (T.CornerTable.sound table.new) (T.CornerTable.keys table.new) (T.CornerTable.capacity table.old) (T.CornerTable.capacity table.new) }
+    ensures table { Emptied T.CornerTable table.old table.new }
 {
-    // kept: `0..`, since nothing is known of a vector's cells after they were lent by `..count`
+    // kept: `0..`, since after `..count`, which was tried, nothing is known of a vector's cells
     let outcome = keep_firsts(&mut points.cells[0..points.count], remap, table);
     if let Ok(firsts) = outcome {
         shorten(points, firsts, blank);
@@ -42,10 +43,7 @@ pub(crate) fn shorten<X: Copy>(row: &mut Row<X>, count: usize, blank: X)
     requires { count ≤ row.old.count }
     ensures { Cut row.old row.new count blank }
 {
-    // kept: a loop, since the slice's `fill` asks of a clone what `Copy` does not say
-    for cell in row.cells[count..row.count].iter_mut() {
-        *cell = blank;
-    }
+    list::fill(&mut row.cells[count..row.count], blank);
     row.count = count;
 }
 
@@ -56,7 +54,7 @@ fn keep_firsts<E: Key, T: CornerTable<E>>(
     remap: &mut Row<u32>,
     table: &mut T,
 ) -> Result<usize, LoadError>
-    requires { Fresh (T.CornerTable.sound table.old) (T.CornerTable.keys table.old) remap.old (length cells.old) }
+    requires { Fresh T.CornerTable table.old remap.old (length cells.old) }
     ensures kept { IfOk result (λ n. FirstsKept E.Key.meaning cells.old cells.new n (items remap.new)) }
     ensures refused { refusal result ≡ too_many (T.CornerTable.capacity table.old) (map E.Key.meaning cells.old) }
     ensures remap { Steady 0 remap.old remap.new }

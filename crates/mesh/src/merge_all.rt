@@ -4,8 +4,8 @@ ghost use Rattle.elements.specs.Checks.{refusal, first};
 ghost use Rattle.elements.specs.Rows.{items, room};
 ghost use Rattle.mesh.specs.Surface.{Capacities};
 ghost use Rattle.mesh.specs.Lists.{surface, rooms, Blank};
-ghost use Rattle.mesh.specs.Merging.{merged, merge_checks};
-ghost use Rattle.mesh.specs.Merges.{most, bit_checks, Fresh, Emptied, Steady, AllSteady, RowsMerged, Mergeable, TablesFor};
+ghost use Rattle.mesh.specs.Merging.{merged, merge_checks, bit_checks};
+ghost use Rattle.mesh.specs.Merges.{most, Fresh, Emptied, Steady, AllSteady, RowsMerged, Mergeable, TablesFor};
 
 use crate::lists::Lists;
 use crate::merge::{merge_identical_points, shorten};
@@ -26,8 +26,8 @@ pub(crate) fn merge_points<Qt: CornerTable<Point>, Rt: CornerTable<Pair>>(
     ensures rooms { rooms lists.new ≡ rooms lists.old }
     ensures blank { Blank lists.old → Blank lists.new }
     ensures cleared { lists.new.remap.count ≡ 0 }
-    ensures points { Emptied (Qt.CornerTable.sound points.new) (Qt.CornerTable.keys points.new) (Qt.CornerTable.capacity points.old) (Qt.CornerTable.capacity points.new) }
-    ensures pairs { Emptied (Rt.CornerTable.sound pairs.new) (Rt.CornerTable.keys pairs.new) (Rt.CornerTable.capacity pairs.old) (Rt.CornerTable.capacity pairs.new) }
+    ensures points { Emptied Qt.CornerTable points.old points.new }
+    ensures pairs { Emptied Rt.CornerTable pairs.old pairs.new }
 {
     points.empty();
     pairs.empty();
@@ -44,7 +44,7 @@ pub(crate) fn merge_points<Qt: CornerTable<Point>, Rt: CornerTable<Pair>>(
 }
 
 // The four lists, one after the other.
-// kept: four calls, since their order is that of the refusals; the blanks are parameters, so that no step asks for the bits of a zero.
+// kept: four calls, since their order is that of the refusals; the blanks are parameters, since a clause can't name `Point::ZERO`.
 fn merge_lists<Qt: CornerTable<Point>, Rt: CornerTable<Pair>>(
     lists: &mut Lists,
     points: &mut Qt,
@@ -52,8 +52,8 @@ fn merge_lists<Qt: CornerTable<Point>, Rt: CornerTable<Pair>>(
     point: Point,
     pair: Pair,
 ) -> Result<(), LoadError>
-    requires points { Fresh (Qt.CornerTable.sound points.old) (Qt.CornerTable.keys points.old) lists.old.remap (most lists.old) }
-    requires pairs { Fresh (Rt.CornerTable.sound pairs.old) (Rt.CornerTable.keys pairs.old) lists.old.remap (most lists.old) }
+    requires points { Fresh Qt.CornerTable points.old lists.old.remap (most lists.old) }
+    requires pairs { Fresh Rt.CornerTable pairs.old lists.old.remap (most lists.old) }
     ensures colours { is_ok result ≡ true → RowsMerged point_bits lists.old.vertex_color lists.new.vertex_color lists.old.vertex_color_indices lists.new.vertex_color_indices }
     ensures positions { is_ok result ≡ true → RowsMerged point_bits lists.old.positions lists.new.positions lists.old.indices lists.new.indices }
     ensures normals { is_ok result ≡ true → RowsMerged point_bits lists.old.normals lists.new.normals lists.old.normal_indices lists.new.normal_indices }
@@ -61,8 +61,8 @@ fn merge_lists<Qt: CornerTable<Point>, Rt: CornerTable<Pair>>(
     ensures refused { refusal result ≡ first (bit_checks (Qt.CornerTable.capacity points.old) (Rt.CornerTable.capacity pairs.old) (surface lists.old)) }
     ensures steady { AllSteady point pair lists.old lists.new }
     ensures cleared { lists.new.remap.count ≡ 0 }
-    ensures points { Emptied (Qt.CornerTable.sound points.new) (Qt.CornerTable.keys points.new) (Qt.CornerTable.capacity points.old) (Qt.CornerTable.capacity points.new) }
-    ensures pairs { Emptied (Rt.CornerTable.sound pairs.new) (Rt.CornerTable.keys pairs.new) (Rt.CornerTable.capacity pairs.old) (Rt.CornerTable.capacity pairs.new) }
+    ensures points { Emptied Qt.CornerTable points.old points.new }
+    ensures pairs { Emptied Rt.CornerTable pairs.old pairs.new }
 {
     merge_identical_points(
         &mut lists.vertex_color,

@@ -101,6 +101,7 @@ impl<N: Numbering> Writer<'_, N> {
 }
 
 // How a face unfolds that is not skipped.
+// kept: a way that is chosen and then gone, since the match that chooses it is a form that the project asks for
 #[derive(Clone, Copy, PartialEq, Eq, Debug)]
 enum Unfolding {
     Empty,

@@ -36,6 +36,7 @@ pub fn count_corners(text: &[u8]) -> Option<usize>
 
 // Writes the corners of a face text after the first `start` cells of a list, and says how many there were:
 // a text that does not read or does not fit changes no cell.
+// kept: none for both, as tobj says no; the book tells them apart
 pub fn parse_face(
     text: &[u8],
     counts: Counts,
@@ -72,6 +73,7 @@ fn write_corners(text: &[u8], counts: Counts, cells: &mut [VertexIndices])
     let mut tokens = Tokens::new(text);
     for cell in cells.iter_mut() {
         // Each cell has its token, which reads, so neither `unwrap` fails.
+        // kept: `next` by hand, since nothing is known of cells that an adapter of `iter_mut` lends
         let token = tokens.next().unwrap();
         *cell = token_corner(token, counts).unwrap();
     }

@@ -28,6 +28,7 @@ pub(crate) fn reference(named: i64, count: usize) -> usize
     }
 }
 
+// kept: two functions, since one adds and the other takes away
 fn positive(digits: &[u8]) -> Option<i64>
     ensures { result ≡ signed pos (2 ^ 63) digits.now }
 {

@@ -9,7 +9,7 @@ pub struct Token<'a> {
 }
 
 // A part of a token, with where it begins in the face text.
-// kept: an enum and no `Option`, since an empty part has its place in the text too
+// kept: an enum and no `Option`, a form that the project asks for: an empty part has its place in the text too
 #[derive(Clone, Copy)]
 pub enum Part<'a> {
     Empty { at: usize },

@@ -2,11 +2,15 @@
 --   word_at bs i     the 32-bit word at the byte i, its lowest byte first
 --   float_at bs i    the number whose bits that word is
 --   kind_of bs       the kind of the record that begins bs: the top four bits of its head word, 0 where no whole word is left
+--   Names n r        the result r is the kind that the number n names, or an error that holds n where it names none
 --   options_of n     the options whose flags are the bits of n
 --   size r           how many bytes the record r takes up
 --   Stands bs r      the record r begins bs
-use Rattle.std.specs.Prelude.{◌≡◌, ℕ, ◌+◌, ◌*◌, ◌/◌, ◌%◌, ◌<◌, ◌≤◌, Bool, if◌then◌else◌, List, length, ◌==◌, from_bits, nat_lt, slice_index, Float}
+use Rattle.std.specs.Prelude.{◌≡◌, ℕ, ◌+◌, ◌*◌, ◌/◌, ◌%◌, ◌<◌, ◌≤◌, ◌⊎◌, Bool, if◌then◌else◌, List, length, ◌==◌, from_bits, nat_lt, slice_index, Float, Result, MatchResult}
 use Rattle.std.specs.Float.{binary32}
+use Rattle.records.specs.declared.kind.Kind.{Kind}
+use Rattle.records.specs.declared.kind.Kind.TheVariants as Kinds
+use Rattle.records.specs.declared.kind.UnknownKind.{UnknownKind}
 use Rattle.elements.specs.declared.options.LoadOptions.{LoadOptions}
 use Rattle.records.specs.declared.record.Record.{Record}
 use Rattle.records.specs.declared.record.Record.TheVariants.{Position, Colour, Texture, Normal, Face, Export}
@@ -23,6 +27,18 @@ head kind low = kind * 268435456 + low
 
 abbrev pub kind_of : List ℕ → ℕ
 kind_of bs = if nat_lt (length bs) 4 then 0 else word_at bs 0 / 268435456
+
+-- the number of a kind
+abbrev pub number_of : Kind → ℕ
+number_of Kinds.Position = 1
+number_of Kinds.Colour = 2
+number_of Kinds.Texture = 3
+number_of Kinds.Normal = 4
+number_of Kinds.Face = 5
+number_of Kinds.Export = 6
+
+abbrev pub Names : ℕ → Result Kind UnknownKind → Type 0
+Names n r = MatchResult r (λ kind. number_of kind ≡ n) (λ e. (e.0 ≡ n) × ((n < 1) ⊎ (6 < n)))
 
 -- the bit of n that is worth k
 abbrev pub bit : ℕ → ℕ → Bool

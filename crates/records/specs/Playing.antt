@@ -7,7 +7,7 @@
 --   Ended            why playing stopped: nothing was left, or what was left is no record, or no line was left to write
 --   last_left        what a mesh holds after a past: what its last export left, or what was there before
 --   Played           all of it together, after any past of the book
-use Rattle.std.specs.Prelude.{◌≡◌, ℕ, ◌<◌, ◌⊎◌, List, [], ◌∷◌, ◌++◌, length, take, drop, Ok, Err, None}
+use Rattle.std.specs.Prelude.{◌≡◌, ℕ, ◌<◌, ◌⊎◌, List, [], ◌∷◌, ◌++◌, length, take, drop, Option, Ok, Err, None, Some}
 use Rattle.elements.specs.declared.error.LoadError.TheVariants.{BadRecord}
 use Rattle.elements.specs.Contents.{Contents}
 use Rattle.mesh.specs.Surface.{Rooms, Capacities}
@@ -18,6 +18,7 @@ use Rattle.book.specs.History.{Past, blank, more, Reaches, Promised, asks, answe
 use Rattle.records.specs.declared.record.Record.{Record}
 use Rattle.records.specs.declared.record.Record.TheVariants.{Position, Colour, Texture, Normal, Face, Export}
 use Rattle.records.specs.declared.line.Line.{Line}
+use Rattle.records.specs.declared.line.Size.{Size}
 use Rattle.records.specs.Layout.{kind_of, options_of, size, Stands}
 
 -- ---- one record
@@ -42,18 +43,17 @@ kind_number (add_normal x y z) = 4
 kind_number (add_face text) = 5
 kind_number (write_mesh o material ms ts) = 6
 
--- a count that is told of a granted export alone
-abbrev pub told_of : CallAnswer → ℕ → ℕ
-told_of (Ok Done) n = 0
-told_of (Ok (Exported w s)) n = n
-told_of (Err e) n = 0
+-- the size of a mesh is told of a granted export alone
+abbrev pub told_size : CallAnswer → Left → Option Size
+told_size (Ok Done) m = None
+told_size (Ok (Exported w s)) m = Some (record { indices = length m.surface.indices; positions = length m.surface.positions })
+told_size (Err e) m = None
 
 abbrev pub line_of : ℕ → CallAnswer → Left → Line
-line_of kind a m =
-    record { kind = kind; answer = a; indices = told_of a (length m.surface.indices); positions = told_of a (length m.surface.positions) }
+line_of kind a m = record { kind = kind; answer = a; size = told_size a m }
 
 abbrev pub bad_line : List ℕ → Line
-bad_line rest = record { kind = kind_of rest; answer = Err BadRecord; indices = 0; positions = 0 }
+bad_line rest = record { kind = kind_of rest; answer = Err BadRecord; size = None }
 
 -- ---- a whole tape
 

@@ -1,6 +1,7 @@
 ghost use Rattle.std.specs.Prelude.{◌≡◌, ℕ, ◌+◌, ◌*◌, ◌<◌, ◌≤◌, ◌↔◌, IsTrue, length, MatchOption, slice_index, slice_index_or, Float};
 ghost use Rattle.records.specs.Layout.{kind_of, size as bytes_of, options_of, padded, float_at, Stands};
 
+use crate::kind::Kind;
 use crate::record::Record;
 use crate::word::{float, word};
 use elements::options::LoadOptions;
@@ -70,6 +71,7 @@ fn zeros(bytes: &[u8]) -> bool
 }
 
 // A face with a text of so many bytes, which whole words hold, filled up with zeros.
+// kept: `if` and no `then_some`, which leaves both outcomes in one goal, open without a case split by hand
 fn face(tape: &[u8], bytes: usize) -> Option<Record>
     ensures { MatchOption result
         (bytes ≤ 4096 → 4 + padded bytes ≤ length tape.now → ((i : ℕ) → 4 + bytes ≤ i → i < 4 + padded bytes → slice_index tape.now i ≡ 0) → ⊥)
@@ -101,6 +103,7 @@ impl Record {
 }
 
 // The record that begins here.
+// kept: `?` and no `map` over the numbers, which leaves the goals of its four calls open without answers by hand
 pub fn read(tape: &[u8]) -> Option<Record>
     ensures { MatchOption result ((x : Record) → Stands tape.now x → ⊥) (λ x. Stands tape.now x) }
 {
@@ -108,25 +111,25 @@ pub fn read(tape: &[u8]) -> Option<Record>
         return None;
     }
     let head = word(tape, 0);
-    match (head / KIND, head % KIND) {
-        (1, 0) => {
+    match (Kind::try_from(head / KIND).ok()?, head % KIND) {
+        (Kind::Position, 0) => {
             let [x, y, z] = floats::<3>(tape)?;
             Some(Record::Position(x, y, z))
         }
-        (2, 0) => {
+        (Kind::Colour, 0) => {
             let [x, y, z] = floats::<3>(tape)?;
             Some(Record::Colour(x, y, z))
         }
-        (3, 0) => {
+        (Kind::Texture, 0) => {
             let [u, v] = floats::<2>(tape)?;
             Some(Record::Texture(u, v))
         }
-        (4, 0) => {
+        (Kind::Normal, 0) => {
             let [x, y, z] = floats::<3>(tape)?;
             Some(Record::Normal(x, y, z))
         }
-        (5, bytes) => face(tape, bytes as usize),
-        (6, flags) if flags < FLAGS => Some(Record::Export(flags as u8)),
+        (Kind::Face, bytes) => face(tape, bytes as usize),
+        (Kind::Export, flags) if flags < FLAGS => Some(Record::Export(flags as u8)),
         _ => None,
     }
 }

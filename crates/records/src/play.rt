@@ -9,7 +9,7 @@ ghost use Rattle.records.specs.Layout.{size as bytes_of, Stands};
 ghost use Rattle.records.specs.Playing.{heard, Asks, line_of, Played};
 
 use crate::layout::{kind, options, read};
-use crate::line::Line;
+use crate::line::{Line, Size};
 use crate::record::Record;
 use book::book::Book;
 use book::calls::{Answer, Call, Reply};
@@ -85,21 +85,15 @@ fn call_of<'a>(found: Record, tape: &'a [u8]) -> Call<'a>
 fn line(kind: u8, answer: Answer, mesh: &Mesh) -> Line
     ensures { (t : Stock) → result ≡ line_of kind answer (left mesh.now t) }
 {
-    let plain = Line {
-        kind,
-        answer,
-        indices: 0,
-        positions: 0,
-    };
-    match answer {
+    let size = match answer {
         Ok(Reply::Exported(..)) => {
             let lists = mesh.lists();
-            Line {
+            Some(Size {
                 indices: lists.indices.len(),
                 positions: lists.positions.len(),
-                ..plain
-            }
+            })
         }
-        _ => plain,
-    }
+        _ => None,
+    };
+    Line { kind, answer, size }
 }

@@ -12,7 +12,7 @@ use std::alloc::{AllocError, Global};
 
 // A table whose keys are found through slots, each free or with one more than a key's place.
 // There are more than twice as many slots as keys, so that a walk is short and always comes to a free slot.
-// kept: slots beside the keys and no map of std, which asks for memory as it grows
+// kept: slots beside the keys and no map of std, which asks for memory as it grows; a slot is one word, so 0 and no `Option`
 #[derive(Drop)]
 pub struct HashedTable<K: Key> {
     held: Row<K>,

@@ -7,6 +7,7 @@ use elements::corner::VertexIndices;
 use elements::point::{Pair, Point};
 
 // What can be entered into a table: something that means a list of whole numbers.
+// kept: a trait of its own and no `Eq` with `Hash`, which floats have not; a block for each kind of key, since a key is what it means
 pub trait Key: Copy {
     ghost meaning: { Self → List ℕ };
 

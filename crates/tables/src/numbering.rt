@@ -3,6 +3,8 @@ ghost use Rattle.tables.specs.Numbering.{Each, Numbered};
 
 use crate::key::Key;
 use crate::table::CornerTable;
+use std::error::Error;
+use std::fmt;
 
 // Why keys were not numbered.
 #[derive(Clone, Copy, PartialEq, Eq, Debug)]
@@ -12,6 +14,17 @@ pub enum Unnumbered {
     // The key at this place, from 0, met a full table.
     Full(usize),
 }
+
+impl fmt::Display for Unnumbered {
+    fn fmt<W: fmt::Write>(&self, f: &mut fmt::Formatter<W>) -> fmt::Result {
+        match self {
+            Unnumbered::Short => f.write_str("there are fewer cells than keys"),
+            Unnumbered::Full(i) => write!(f, "the key at {i} met a full table"),
+        }
+    }
+}
+
+impl Error for Unnumbered {}
 
 // Writes for each key its number, the place of its first appearance among the different ones; the table then holds these.
 // Where it is refused, the table is empty, and the cells before the refused key hold the numbers of the keys before it.
@@ -45,8 +58,8 @@ fn number_each<T: CornerTable<K>, K: Key>(
     if out.len() < keys.len() {
         return Err(Unnumbered::Short);
     }
+    // kept: `out[i]`, since the place is told too, and zipped with `out.iter_mut()` the loop would bind three names
     for (i, key) in keys.iter().enumerate() {
-        // kept: zipped with `out.iter_mut()` as well, the loop binds three names, and is no plainer
         out[i] = table.enter(*key).ok_or(Unnumbered::Full(i))?;
     }
     Ok(())

@@ -28,6 +28,7 @@ pub trait CornerTable<K: Key> {
         ensures found { sound self.now → Found (K.Key.meaning key.now) (keys self.now) result };
 
     // The key's place, where a new key takes the next one; none, and no effect, where a new key meets a full table.
+    // kept: an `Option`, since a full table is the one refusal
     fn enter(&mut self, key: K) -> Option<u32>
         ensures capacity { capacity self.new ≡ capacity self.old }
         ensures sound { sound self.old → sound self.new }

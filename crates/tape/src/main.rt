@@ -48,7 +48,8 @@ fn hashed_tables(heap: Global) -> Result<HashedTables, AllocError> {
     })
 }
 
-fn run(rt: &HostRuntime) -> anyhow::Result<()> {
+// kept: `map_err` and no `context`, which would print the cause too
+fn main(rt: HostRuntime) -> anyhow::Result<()> {
     let heap = rt.alloc();
     let mut book = blank_book(heap, PLACES).map_err(|_| anyhow!(
         "tape: no memory for the lists of the book"
@@ -57,7 +58,8 @@ fn run(rt: &HostRuntime) -> anyhow::Result<()> {
         "tape: no memory for the lists of the mesh"
     ))?;
     let mut tables = hashed_tables(heap).map_err(|_| anyhow!("tape: no memory for the tables"))?;
-    let mut tape = Vec::with_capacity(heap, MOST_BYTES).map_err(|_| anyhow!(
+    // a byte more, so that the end of a tape that fills it is seen without asking for more
+    let mut tape = Vec::with_capacity(heap, MOST_BYTES + 1).map_err(|_| anyhow!(
         "tape: no memory for the tape"
     ))?;
     let mut lines = vec![in heap; Line::BLANK; MOST_LINES].map_err(|_| anyhow!(
@@ -72,8 +74,4 @@ fn run(rt: &HostRuntime) -> anyhow::Result<()> {
         println!(rt; "{} {line}", i + 1)?;
     }
     Ok(())
-}
-
-fn main(rt: HostRuntime) -> anyhow::Result<()> {
-    run(&rt)
 }
