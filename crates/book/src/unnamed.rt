@@ -1,6 +1,6 @@
 ghost use Rattle.std.specs.Prelude.{◌≡◌, ◌<◌, ◌≤◌, true, [], ◌∷◌, length, drop, is_ok, MatchResult, nat_le, nat_lt};
 ghost use Rattle.elements.specs.declared.error.LoadError.TheVariants.{TableFull, MeshFull};
-ghost use Rattle.elements.specs.Cells.{blanked};
+ghost use Rattle.elements.specs.Cells.{most, blanked};
 ghost use Rattle.elements.specs.Checks.{refusal, first};
 ghost use Rattle.elements.specs.Rows.{held, items, room, Pushed};
 ghost use Rattle.book.specs.Held.{contained};
@@ -92,7 +92,7 @@ fn list_others<T: CornerTable<Reference>>(
     list: &mut Row<u32>,
 ) -> Result<(), LoadError>
     requires sound { T.CornerTable.sound named.now }
-    requires few { positions ≤ 16777216 }
+    requires few { positions ≤ most }
     requires blank { list.old.count ≡ 0 }
     ensures refused { refusal result ≡ first ((nat_lt (room list.old) (length (others positions (T.CornerTable.keys named.now))), MeshFull) ∷ []) }
     ensures listed { is_ok result ≡ true → items list.new ≡ others positions (T.CornerTable.keys named.now) }

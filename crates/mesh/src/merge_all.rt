@@ -121,6 +121,7 @@ fn number_colours(colours: &Row<Point>, indices: &Row<u32>, colour_indices: &mut
         return;
     }
     shorten(colour_indices, 0, 0);
+    // kept: number by number, since a row counts as it grows
     for number in indices.as_slice() {
         colour_indices.push(*number).unwrap();
     }

@@ -1,5 +1,6 @@
 ghost use Rattle.std.specs.Prelude.{◌≡◌, ◌+◌, ◌≤◌, List, [], ◌∷◌, ◌++◌, map, length, IfOk, Some, filter};
 ghost use Rattle.elements.specs.declared.corner.VertexIndices.{VertexIndices};
+ghost use Rattle.elements.specs.Cells.{most};
 ghost use Rattle.elements.specs.Contents.{faces_of};
 ghost use Rattle.elements.specs.Rows.{items};
 ghost use Rattle.elements.specs.Tiles.{part};
@@ -27,7 +28,7 @@ pub(crate) struct Writer<'a, N: Numbering> {
 impl<N: Numbering> Writer<'_, N> {
     // Every waiting face that is not skipped, in order; answers how many these are.
     pub(crate) fn write_faces(&mut self, waiting: &Waiting) -> Result<usize, LoadError>
-        ensures writes { Writes N.Numbering.stock N.Numbering.sound (events self.old.options (faces_of waiting.now)) self.old self.new result }
+        ensures writes { Writes N.Numbering (events self.old.options (faces_of waiting.now)) self.old self.new result }
         ensures count { IfOk result (λ n. n ≡ length (filter (wanted self.old.options) (faces_of waiting.now))) }
     {
         let mut written = 0;
@@ -45,8 +46,8 @@ impl<N: Numbering> Writer<'_, N> {
     // One face, in the way in which it unfolds.
     fn write_face(&mut self, way: Unfolding, corners: &[VertexIndices]) -> Result<(), LoadError>
         requires way { Unfolds self.old.options corners.now (Some way) }
-        requires short { length corners.now ≤ 16777216 }
-        ensures { Writes N.Numbering.stock N.Numbering.sound (events self.old.options (corners.now ∷ [])) self.old self.new result }
+        requires short { length corners.now ≤ most }
+        ensures { Writes N.Numbering (events self.old.options (corners.now ∷ [])) self.old self.new result }
     {
         match way {
             Unfolding::Empty => Err(LoadError::InvalidPolygon),
@@ -60,7 +61,7 @@ impl<N: Numbering> Writer<'_, N> {
     // The triangles around the first corner.
     fn write_fan(&mut self, corners: &[VertexIndices]) -> Result<(), LoadError>
         requires { 3 ≤ length corners.now }
-        ensures { Writes N.Numbering.stock N.Numbering.sound (map corner (triangles corners.now)) self.old self.new result }
+        ensures { Writes N.Numbering (map corner (triangles corners.now)) self.old self.new result }
     {
         for side in corners[1..].windows(2) {
             self.write_corners(&[corners[0], side[0], side[1]])?;
@@ -70,8 +71,8 @@ impl<N: Numbering> Writer<'_, N> {
 
     // The corners as they stand, and then how many they are.
     fn write_plain(&mut self, corners: &[VertexIndices]) -> Result<(), LoadError>
-        requires { length corners.now ≤ 16777216 }
-        ensures { Writes N.Numbering.stock N.Numbering.sound (map corner corners.now ++ arity (length corners.now) ∷ []) self.old self.new result }
+        requires { length corners.now ≤ most }
+        ensures { Writes N.Numbering (map corner corners.now ++ arity (length corners.now) ∷ []) self.old self.new result }
     {
         self.write_corners(corners)?;
         let arity = corners.len() as u32;
@@ -83,7 +84,7 @@ impl<N: Numbering> Writer<'_, N> {
 
     // Corners one after the other.
     fn write_corners(&mut self, corners: &[VertexIndices]) -> Result<(), LoadError>
-        ensures { Writes N.Numbering.stock N.Numbering.sound (map corner corners.now) self.old self.new result }
+        ensures { Writes N.Numbering (map corner corners.now) self.old self.new result }
     {
         for vert in corners {
             self.write_corner(*vert)?;
@@ -93,7 +94,7 @@ impl<N: Numbering> Writer<'_, N> {
 
     // One corner.
     fn write_corner(&mut self, vert: VertexIndices) -> Result<(), LoadError>
-        ensures { Writes N.Numbering.stock N.Numbering.sound (corner vert ∷ []) self.old self.new result }
+        ensures { Writes N.Numbering (corner vert ∷ []) self.old self.new result }
     {
         self.tables
             .add_corner(self.options, self.lists, self.attributes, vert)
@@ -130,7 +131,7 @@ fn unfolding_of(count: usize, options: LoadOptions) -> Option<Unfolding>
 fn corners_of(waiting: &Waiting, face: Face) -> &[VertexIndices]
     requires { face.start + face.count ≤ waiting.now.corners.count }
     ensures corners { result.now ≡ part (items waiting.now.corners) face }
-    ensures short { length result.now ≤ 16777216 }
+    ensures short { length result.now ≤ most }
 {
     &waiting.corners.as_slice()[face.start..][..face.count]
 }

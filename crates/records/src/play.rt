@@ -20,6 +20,7 @@ use mesh::numbering::Numbering;
 
 // Plays a tape on a book, as far as it is readable and a line is left for each record, and says how many lines it wrote.
 // Exports write into this mesh, by these tables.
+// kept: lines that are handed in and a count of those written, since the library asks for no memory
 // kept: book, mesh and tables apart, since the caller owns and lends each, and mesh and tables may be others at the next call
 #[tactic(auto, using(book::proofs::HistoryFacts::history))]
 pub fn play<N: Numbering>(

@@ -8,6 +8,7 @@ pub(crate) fn word(tape: &[u8], at: usize) -> u32
     requires { at + 4 ≤ length tape.now }
     ensures { result ≡ word_at tape.now at }
 {
+    // kept: four bytes by index, since an array that is made of a slice may fail
     u32::from_le_bytes([tape[at], tape[at + 1], tape[at + 2], tape[at + 3]])
 }
 

@@ -3,12 +3,13 @@
 --   Found k ks r              r is what Find answers for the key k among ks
 --   Entering cap k ks ls r    Enter of the key k turned the keys ks into ls and answered r
 use Rattle.std.specs.Prelude.{◌≡◌, ℕ, ◌<◌, ◌≤◌, true, false, List, length, Some, None, Option}
+use Rattle.elements.specs.Cells.{most as most_elements}
 use Rattle.elements.specs.First.{has, place, entered, Apart}
 
 pub record Fit (cap : ℕ) (ks : List (List ℕ)) : Type 0 where
   pub apart : Apart ks
   pub within : length ks ≤ cap
-  pub most : cap ≤ 16777216
+  pub most : cap ≤ most_elements
 
 abbrev pub Found : List ℕ → List (List ℕ) → Option ℕ → Type 0
 Found m ks (Some i) = (has ks m ≡ true) × (i ≡ place ks m)

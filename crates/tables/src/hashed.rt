@@ -1,4 +1,5 @@
 ghost use Rattle.std.specs.Prelude.{◌≡◌, ℕ, ◌+◌, ◌*◌, min, List, [], length, IfOk};
+ghost use Rattle.elements.specs.Cells.{room_of};
 ghost use Rattle.elements.specs.Rows.{room};
 ghost use Rattle.tables.specs.Searching.{meanings};
 ghost use Rattle.tables.specs.Hashing.{Hashed};
@@ -26,7 +27,7 @@ impl<K: Key> HashedTable<K> {
     pub fn new(heap: Global, cells: Vec<K>) -> Result<HashedTable<K>, AllocError>
         ensures sound { IfOk result (λ t. Hashed K.Key.digest (meanings K.Key.meaning t.held) t.slots.items) }
         ensures none { IfOk result (λ t. meanings K.Key.meaning t.held ≡ []) }
-        ensures capacity { IfOk result (λ t. room t.held ≡ min (length cells.items) 16777216) }
+        ensures capacity { IfOk result (λ t. room t.held ≡ room_of (length cells.items)) }
     {
         let held = Row::new(cells);
         let slots = vec![in heap; 0u32; 2 * held.room() + 1]?;

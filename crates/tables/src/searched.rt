@@ -1,4 +1,5 @@
 ghost use Rattle.std.specs.Prelude.{◌≡◌, ℕ, min, List, [], length};
+ghost use Rattle.elements.specs.Cells.{room_of};
 ghost use Rattle.elements.specs.Rows.{room};
 ghost use Rattle.tables.specs.Searching.{meanings, Searched};
 
@@ -17,7 +18,7 @@ impl<K: Key> SearchedTable<K> {
     pub fn new(cells: Vec<K>) -> SearchedTable<K>
         ensures sound { Searched K.Key.meaning result.held }
         ensures none { meanings K.Key.meaning result.held ≡ [] }
-        ensures capacity { room result.held ≡ min (length cells.items) 16777216 }
+        ensures capacity { room result.held ≡ room_of (length cells.items) }
     {
         SearchedTable {
             held: Row::new(cells),

@@ -1,4 +1,5 @@
 ghost use Rattle.std.specs.Prelude.{◌≡◌, ℕ, ◌<◌, false, List, [], IfSome};
+ghost use Rattle.elements.specs.Cells.{most};
 ghost use Rattle.elements.specs.First.{has};
 ghost use Rattle.elements.specs.Rows.{room};
 ghost use Rattle.tables.specs.Searching.{meanings};
@@ -39,7 +40,7 @@ pub trait CornerTable<K: Key> {
 // Takes a new key in after the others, and answers its place; none, and no effect, where no cell is left.
 pub(crate) fn add<K: Key>(held: &mut Row<K>, key: K) -> Option<u32>
     ensures room { room held.new ≡ room held.old }
-    ensures below { IfSome result (λ i. i < 16777216) }
+    ensures below { IfSome result (λ i. i < most) }
     ensures entering { has (meanings K.Key.meaning held.old) (K.Key.meaning key) ≡ false → Entering (room held.old) (K.Key.meaning key) (meanings K.Key.meaning held.old) (meanings K.Key.meaning held.new) result }
 {
     let place = held.len() as u32;

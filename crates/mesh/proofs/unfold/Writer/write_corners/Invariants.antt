@@ -5,4 +5,4 @@ use Rattle.mesh.proofs.unfold.Writer.write_corners.Given as goal
 
 abbrev pub invariant-loop-vert : goal.invariant-loop-vert
 invariant-loop-vert g l =
-    Midway g.N.Numbering.stock g.N.Numbering.sound (map corner l.corners) (map corner (drop l.vert-index l.corners)) l.initial.self l.self
+    Midway g.N.Numbering (map corner l.corners) (map corner (drop l.vert-index l.corners)) l.initial.self l.self

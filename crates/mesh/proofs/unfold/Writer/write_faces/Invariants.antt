@@ -8,6 +8,6 @@ abbrev pub invariant-loop-face : goal.invariant-loop-face
 invariant-loop-face g l =
     let o = l.initial.self.options in
     let fs = faces_of l.waiting in
-    Midway g.N.Numbering.stock g.N.Numbering.sound (events o fs) (events o (drop l.face-index fs)) l.initial.self l.self
+    Midway g.N.Numbering (events o fs) (events o (drop l.face-index fs)) l.initial.self l.self
     × (l.written ≡ length (filter (wanted o) (take l.face-index fs)))
     × (l.written ≤ l.face-index)
