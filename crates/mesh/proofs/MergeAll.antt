@@ -23,7 +23,7 @@ use Rattle.mesh.proofs.MergeFacts.{renumbered-through}
 -- ---- what merging lacks
 
 -- a list has as many elements as it counts
-length-elements : {E : Type 0} (meaning : E → List ℕ) (r : Row E) → length (map meaning (items r)) ≡ r.count
+pub length-elements : {E : Type 0} (meaning : E → List ℕ) (r : Row E) → length (map meaning (items r)) ≡ r.count
 length-elements meaning r = length-map (items r) meaning ∙ length-items r
 
 abbrev pub lacking : Lists → Bool

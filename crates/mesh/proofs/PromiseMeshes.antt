@@ -107,6 +107,10 @@ module _ (ys : List (List ℕ)) (r : ℕ) (xs : List (List ℕ)) (b : Bool) (ns 
   reads_second : b ≡ false → Leads xs ms i (element ys r) → Reads ys r xs (cond b ns ms) i
   reads_second f h = let R : List ℕ → Type 0 = λ at. Reads ys r xs at i in subst R (sym (cond-false b ns ms f)) (reads-from ys r xs ms i below h)
 
+-- each position of a mesh that numbers positions apart is used
+pub multi-used : (s : Sources) (cs : List VertexIndices) → Used (length (multi s cs).positions) (multi s cs).indices
+multi-used s cs = elements-used (λ k. element s.positions (v_of k)) (map one (position_refs cs))
+
 module _ (o : LoadOptions) (s : Sources) (cs : List VertexIndices) (ns : List ℕ) (g : Granted o s cs) where
   pub single_promise : o.single_index ≡ true → o.merge_identical_points ≡ false → MeshPromise o s cs (with_arities ns (single s cs))
   single_promise joint unmerged =
@@ -126,14 +130,11 @@ module _ (o : LoadOptions) (s : Sources) (cs : List VertexIndices) (ns : List �
   multi-counted : length (multi s cs).indices ≡ length cs
   multi-counted = length-numbers (map one (position_refs cs)) ∙ length-map (position_refs cs) one ∙ length-map cs (λ c. c.v)
 
-  multi-used : Used (length (multi s cs).positions) (multi s cs).indices
-  multi-used = elements-used (λ k. element s.positions (v_of k)) (map one (position_refs cs))
-
   pub multi_promise : o.single_index ≡ false → o.merge_identical_points ≡ false → MeshPromise o s cs (with_arities ns (multi s cs))
   multi_promise apart unmerged =
       record {
         counted = multi-counted;
-        used = multi-used;
+        used = multi-used s cs;
         positions = λ i l. reads-from _ _ _ _ i (g.within i l).position (multi-positions s cs i l);
         textures = λ i l t. reads_second _ _ _ _ _ _ i ((g.within i l).texture t) apart (carried_lead s cs i l vt_of s.textures t);
         normals = λ i l t. reads_second _ _ _ _ _ _ i ((g.within i l).normal t) apart (carried_lead s cs i l vn_of s.normals t);
@@ -175,7 +176,7 @@ module _ (o : LoadOptions) (s : Sources) (cs : List VertexIndices) (ns : List �
   merged_promise apart merging =
       record {
         counted = length-map (multi s cs).indices (λ n. place (distinct (multi s cs).positions) (get_or (multi s cs).positions n [])) ∙ multi-counted;
-        used = merged-used (multi s cs).positions (multi s cs).indices multi-used;
+        used = merged-used (multi s cs).positions (multi s cs).indices (multi-used s cs);
         positions = λ i l. reads-from _ _ _ _ i (g.within i l).position (merged_lead (multi s cs).positions (multi s cs).indices i _ (multi-positions s cs i l));
         textures = λ i l t. reads_second _ _ _ _ _ _ i ((g.within i l).texture t) apart (merged_lead (multi s cs).textures (multi s cs).texture_indices i _ (carried_lead s cs i l vt_of s.textures t));
         normals = λ i l t. reads_second _ _ _ _ _ _ i ((g.within i l).normal t) apart (merged_lead (multi s cs).normals (multi s cs).normal_indices i _ (carried_lead s cs i l vn_of s.normals t));

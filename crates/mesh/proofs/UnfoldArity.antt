@@ -96,7 +96,7 @@ module _ (o : LoadOptions) (s : Sources) (l : Lists) (t : Stock) (S : Type 0) (k
       }
 
   -- it was written
-  arity-written : {X : Type 0} (x : X) (r : Row ℕ) → l.face_arities.count < room l.face_arities → Pushed l.face_arities r k → Writing o s (arity k ∷ []) l (with_row l r) t t S S (Ok x)
+  pub arity-written : {X : Type 0} (x : X) (r : Row ℕ) → l.face_arities.count < room l.face_arities → Pushed l.face_arities r k → Writing o s (arity k ∷ []) l (with_row l r) t t S S (Ok x)
   arity-written x r free p =
       record {
         kept = kept_row r p.room (spare-pushed zero_number l.face_arities r k p);
@@ -107,7 +107,7 @@ module _ (o : LoadOptions) (s : Sources) (l : Lists) (t : Stock) (S : Type 0) (k
       }
 
   -- there was no cell for it
-  arity-refused : {X : Type 0} (r : Row ℕ) → room l.face_arities ≤ l.face_arities.count → r ≡ l.face_arities → Writing o s (arity k ∷ []) l (with_row l r) t t S S {X = X} (Err MeshFull)
+  pub arity-refused : {X : Type 0} (r : Row ℕ) → room l.face_arities ≤ l.face_arities.count → r ≡ l.face_arities → Writing o s (arity k ∷ []) l (with_row l r) t t S S {X = X} (Err MeshFull)
   arity-refused r full e =
       record {
         kept = kept_row r (ap room e) (λ h. let P : Row ℕ → Type 0 = λ x. Spare zero_number x in subst P (sym e) h);

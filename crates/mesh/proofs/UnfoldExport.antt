@@ -103,7 +103,7 @@ module _ (s : Sources) (ns : List ℕ) (cs : List VertexIndices) where
         none = refl;
       }
 
-  multi_mergeable : Mergeable (with_arities ns (multi s cs))
+  pub multi_mergeable : Mergeable (with_arities ns (multi s cs))
   multi_mergeable =
       record {
         indices = within-map (λ k. element s.positions (v_of k)) (map one (position_refs cs));

@@ -142,7 +142,7 @@ module _ (o : LoadOptions) (s : Sources) (rs rs' : Rooms) (n n' : Capacities) (f
   stopped_at e a b w = subst (λ x. Stopped o s x n' fs m ks e) a (subst (λ x. Stopped o s rs x fs m ks e) b w)
 
 module _ {l₀ l₁ l₂ : Lists} {t₀ t₁ t₂ : Stock} {S₀ S₁ S₂ : Type 0} where
-  kept_then : Kept l₀ l₁ t₀ t₁ S₀ S₁ → Kept l₁ l₂ t₁ t₂ S₁ S₂ → Kept l₀ l₂ t₀ t₂ S₀ S₂
+  pub kept_then : Kept l₀ l₁ t₀ t₁ S₀ S₁ → Kept l₁ l₂ t₁ t₂ S₁ S₂ → Kept l₀ l₂ t₀ t₂ S₀ S₂
   kept_then a b =
       record {
         rooms = b.rooms ∙ a.rooms;

@@ -98,9 +98,11 @@ fn settle(lists: &mut Lists, number: u32, vertex: Vertex) -> Result<(), Full>
     ensures old { number < lists.old.positions.count → Settles lists.old lists.new (numbered_again (surface lists.old) number) (is_ok result) }
     ensures new { lists.old.positions.count ≤ number → Settles lists.old lists.new (numbered_again (widened (surface lists.old) vertex) number) (is_ok result) }
 {
-    if number as usize >= lists.positions.len() {
-        widen(lists, vertex)?;
+    if (number as usize) < lists.positions.len() {
+        // a number that the mesh has already
+        return lists.indices.push(number);
     }
+    widen(lists, vertex)?;
     lists.indices.push(number)
 }
 

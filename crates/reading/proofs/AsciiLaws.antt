@@ -1,13 +1,12 @@
-use Rattle.std.proofs.Common.{◌≡◌, ℕ, zero, suc, ◌+◌, ◌^◌, ◌≤◌, Bool, true, false, cond, ◌&&◌, eqb, ltb, leb, List, [], ◌∷◌, map, length, get_or, drop, ℤ, pos, neg_ℤ, is_some, Some, None, Option, sym, refl, ap, ◌∙◌, ⊎_elim, arith}
-use Rattle.std.proofs.lemmas.Bool.{and_parts, and_from, le-leb, leb-true, eqb-true, false≢true, both_ways, cases_Bool}
+use Rattle.std.proofs.Common.{◌≡◌, ℕ, ◌+◌, ◌^◌, ◌≤◌, Bool, true, false, cond, ◌&&◌, eqb, ltb, leb, List, [], ◌∷◌, map, length, get_or, drop, ℤ, pos, neg_ℤ, is_some, Some, None, Option, refl, ap, ◌∙◌, arith}
+use Rattle.std.proofs.lemmas.Bool.{and_parts, and_from, le-leb, leb-true, eqb-true, false≢true, both_ways}
 use Rattle.std.proofs.lemmas.Bool.Decides.{nat_tests}
-use Rattle.std.specs.Bool.{MatchBool}
+use Rattle.std.specs.List.{list_all}
 use Rattle.std.specs.Option.{option_map}
-use Rattle.std.specs.Str.{IsAscii, IsNotAscii}
 use Rattle.elements.specs.declared.corner.VertexIndices.{VertexIndices}
 use Rattle.reading.specs.declared.counts.Counts.{Counts}
 use Rattle.std.specs.Char.{is_ascii_digit}
-use Rattle.reading.specs.Ascii.{ascii}
+use Rattle.reading.specs.Ascii.{plain, ascii}
 use Rattle.reading.specs.Value.{digits, numeral, number, signed, value, reference}
 use Rattle.reading.specs.Pieces.{Stretch, whole, onto, pieces, stretches, unless_empty, filled, space, slash, tokens, parts, none, vacant}
 use Rattle.reading.specs.Corner.{place, place_of, indices, corner_of, corner}
@@ -157,17 +156,8 @@ only_by n text (Some cs) e h = absurd (both_ways (ascii text) h (face-ascii n te
 pub only_ascii : OnlyAscii
 only_ascii n text h = only_by n text (face n text) refl h
 
--- what `is_ascii` of a slice tells
+-- a text has no byte above 127 exactly where each of its bytes is plain
 
-ascii-all : (cs : List ℕ) → IsAscii cs → ascii cs ≡ true
-ascii-all [] h = refl
-ascii-all (c ∷ cs) h = and_from (leb c 127) (ascii cs) (le-leb c 127 (omega (arith, h 0))) (ascii-all cs (λ i. h (suc i)))
-
-ascii-at : (cs : List ℕ) (i : ℕ) → ascii cs ≡ true → get_or cs i 0 ≤ 127
-ascii-at [] i h = omega arith
-ascii-at (c ∷ cs) zero h = leb-true c 127 (and_parts (leb c 127) (ascii cs) h).0
-ascii-at (c ∷ cs) (suc i) h = ascii-at cs i (and_parts (leb c 127) (ascii cs) h).1
-
-pub ascii_told : (b : Bool) (cs : List ℕ) → MatchBool b (IsAscii cs) (IsNotAscii cs) → b ≡ ascii cs
-ascii_told true cs h = sym (ascii-all cs h)
-ascii_told false cs h = ⊎_elim (λ (a : ascii cs ≡ true). absurd (omega (arith, h.1, ascii-at cs h.0 a))) sym (cases_Bool (ascii cs))
+pub plain_all : (cs : List ℕ) → list_all plain cs ≡ ascii cs
+plain_all [] = refl
+plain_all (c ∷ cs) = ap (λ b. plain c && b) (plain_all cs)

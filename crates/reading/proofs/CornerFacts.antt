@@ -1,9 +1,6 @@
-use Rattle.std.proofs.Common.{◌≡◌, ℕ, ◌<◌, Bool, true, false, cond, ◌&&◌, List, [], ◌∷◌, map, length, get_or, drop, Some, None, Option, sym, refl, ap, ◌∙◌, arith}
-use Rattle.std.proofs.lemmas.Iterator.{YieldsList}
-use Rattle.std.proofs.lemmas.Iterator.Consumers.{YieldsList-from_shown}
+use Rattle.std.proofs.Common.{◌≡◌, ℕ, ◌<◌, Bool, true, false, cond, List, [], ◌∷◌, length, get_or, drop, Some, None, Option, sym, refl, ap, ◌∙◌, arith}
 use Rattle.std.proofs.lemmas.List.{get_or-drop, drop-drop}
 use Rattle.std.specs.Bool.{then_some}
-use Rattle.std.specs.List.{list_all}
 use Rattle.std.specs.Option.{option_map}
 use Rattle.elements.specs.declared.corner.VertexIndices.{VertexIndices}
 use Rattle.reading.specs.declared.counts.Counts.{Counts}
@@ -11,7 +8,7 @@ use Rattle.reading.specs.declared.reader.Part.{Part}
 use Rattle.reading.specs.declared.reader.Part.TheVariants.{Empty, Filled}
 use Rattle.reading.specs.declared.reader.Parts.{Parts}
 use Rattle.reading.specs.Value.{value, reference}
-use Rattle.reading.specs.Pieces.{Stretch, whole, unless_empty, filled, none, vacant}
+use Rattle.reading.specs.Pieces.{whole, vacant}
 use Rattle.reading.specs.Readers.{Gives, left, part_place}
 use Rattle.reading.specs.Corner.{place, place_of, indices, corner_of}
 
@@ -28,38 +25,6 @@ place_is n s (Some (Filled bytes at)) t h = sym (ap (λ z. place_of n z 0) h.0 �
 left_is : (s : Parts) (o : Option Part) (t : Parts) → Gives s o t → left t ≡ drop 1 (left s)
 left_is s None t h = h.0.1 ∙ sym (ap (drop 1) h.0.0)
 left_is s (Some p) t h = sym (ap (drop 1) h.0)
-
--- whether all that are left are empty
-
-abbrev is_nil : List ℕ → Bool
-is_nil [] = true
-is_nil (c ∷ cs) = false
-
-abbrev pub is_empty : Part → Bool
-is_empty (Empty at) = true
-is_empty (Filled bytes at) = false
-
-abbrev bare : List Stretch → List Bool
-bare qs = map (λ q. is_nil q.bytes) qs
-
-nil_filled : (bs : List ℕ) → 0 < length bs → is_nil bs ≡ false
-nil_filled [] h = absurd (omega arith)
-nil_filled (c ∷ cs) h = refl
-
-bare_step : (s : Parts) (p : Part) (t : Parts) → Gives s (Some p) t → bare (left s) ≡ is_empty p ∷ bare (left t)
-bare_step s (Empty at) t h = ap bare h.0
-bare_step s (Filled bytes at) t h = ap bare h.0 ∙ ap (λ b. b ∷ bare (left t)) (nil_filled bytes.now h.1)
-
-vacant_by : (q : Stretch) (bs : List ℕ) (qs : List Stretch) (b : Bool) → b ≡ vacant qs → is_nil bs && b ≡ none (unless_empty q bs (filled qs))
-vacant_by q [] qs b h = h
-vacant_by q (c ∷ cs) qs b h = refl
-
-pub bare_all : (qs : List Stretch) → list_all (λ b. b) (bare qs) ≡ vacant qs
-bare_all [] = refl
-bare_all (q ∷ qs) = vacant_by q q.bytes qs (list_all (λ b. b) (bare qs)) (bare_all qs)
-
-pub parts_yield : (s : Parts) → YieldsList Gives is_empty s (bare (left s))
-parts_yield s = YieldsList-from_shown Gives is_empty (λ t. bare (left t)) (λ a b h. ap (λ z. length (bare z)) h.0.0) bare_step s
 
 then_by : (b : Bool) (x : VertexIndices) → then_some b x ≡ cond b (Some x) None
 then_by true x = refl

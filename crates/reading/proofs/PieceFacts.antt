@@ -1,10 +1,10 @@
-use Rattle.std.proofs.Common.{◌≡◌, ℕ, zero, suc, ◌+◌, ◌<◌, Bool, true, false, cond, ltb, List, [], ◌∷◌, length, get_or, take, drop, Some, None, sym, refl, ap, ◌∙◌, subst, add-one, arith}
+use Rattle.std.proofs.Common.{◌≡◌, ℕ, zero, suc, ◌+◌, ◌<◌, Bool, true, false, cond, ◌&&◌, ltb, List, [], ◌∷◌, length, get_or, take, drop, Some, None, sym, refl, ap, ◌∙◌, subst, add-one, arith}
 use Rattle.std.proofs.lemmas.List.{length-take-le}
 use Rattle.std.proofs.lemmas.List.Sums.{passes_at_first, fails_before_first}
 use Rattle.std.proofs.lemmas.Bool.{cond-true, cond-false, ltb-true, ltb-false}
 use Rattle.std.proofs.lemmas.Option.{cond_some, none-some}
-use Rattle.std.specs.List.{position, position_or_len}
-use Rattle.reading.specs.Pieces.{onto, pieces, stretches, parts_from, slash}
+use Rattle.std.specs.List.{position, position_or_len, list_all}
+use Rattle.reading.specs.Pieces.{onto, pieces, stretches, parts_from, slash, vacant}
 
 none_by : (b : Bool) (k : ℕ) → cond b (Some k) None ≡ None → b ≡ false
 none_by true k h = absurd (none-some k (sym h))
@@ -37,6 +37,20 @@ module _ (cut : ℕ → Bool) where
   run_out (c ∷ cs) before =
       cond-false (cut c) ([] ∷ pieces cut cs) (onto c (pieces cut cs)) (before 0 (omega arith))
       ∙ ap (onto c) (run_out cs (λ k h. before (suc k) (omega arith)))
+
+-- the parts of a text are all empty exactly where it is nothing but slashes
+
+onto_filled : (i c : ℕ) (ps : List (List ℕ)) → vacant (stretches i (onto c ps)) ≡ false
+onto_filled i c [] = refl
+onto_filled i c (p ∷ ps) = refl
+
+slash_by : (b : Bool) (i c : ℕ) (cs : List ℕ) (a : Bool) → a ≡ vacant (parts_from (i + 0 + 1) cs) → b && a ≡ vacant (stretches i (cond b ([] ∷ pieces slash cs) (onto c (pieces slash cs))))
+slash_by true i c cs a h = h
+slash_by false i c cs a h = sym (onto_filled i c (pieces slash cs))
+
+pub slashes : (i : ℕ) (xs : List ℕ) → list_all slash xs ≡ vacant (parts_from i xs)
+slashes i [] = refl
+slashes i (c ∷ cs) = slash_by (slash c) i c cs (list_all slash cs) (slashes (i + 0 + 1) cs)
 
 -- the first part of a token that begins at i
 module _ (i : ℕ) (xs : List ℕ) where

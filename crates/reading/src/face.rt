@@ -16,7 +16,7 @@ use elements::list::room_of;
 pub fn is_ascii(text: &[u8]) -> bool
     ensures { result ≡ ascii text.now }
 {
-    text.is_ascii()
+    text.iter().all(u8::is_ascii)
 }
 
 // How many corners a face text has, if it reads.

@@ -1,6 +1,6 @@
 ghost use Rattle.std.specs.Prelude.{◌≡◌};
 ghost use Rattle.std.specs.Iterator.{YieldsFirstBy, item_count};
-ghost use Rattle.reading.specs.Pieces.{space, tokens, parts};
+ghost use Rattle.reading.specs.Pieces.{space, tokens, parts, vacant};
 ghost use Rattle.reading.specs.Readers.{stretch_of, Proper, Gives, left, tokens_left, token_stretch};
 
 use crate::reader::{Part, Parts, Token, Tokens};
@@ -39,6 +39,16 @@ impl<'a> Parts<'a> {
         ensures { left result ≡ parts (token_stretch token.entry) }
     {
         Parts { rest: Some(token) }
+    }
+
+    // Whether each part that is left is empty, which is so where only slashes are left.
+    pub(crate) fn vacant(&self) -> bool
+        ensures { result ≡ vacant (left self.now) }
+    {
+        match self.rest {
+            Some(token) => token.bytes.iter().all(|byte| *byte == b'/'),
+            None => true,
+        }
     }
 }
 

@@ -39,11 +39,16 @@ pub(crate) fn token_corner(token: Token, counts: Counts) -> Option<VertexIndices
     ensures { result ≡ corner counts (token_stretch token.entry) }
 {
     let mut parts = Parts::new(token);
-    let v = part_reference(parts.next(), counts.positions)?;
-    let vt = part_reference(parts.next(), counts.textures)?;
-    let vn = part_reference(parts.next(), counts.normals)?;
-    let others_empty = parts.all(|part| matches!(part, Part::Empty { .. }));
-    others_empty.then_some(VertexIndices { v, vt, vn })
+    let first = parts.next();
+    let second = parts.next();
+    let third = parts.next();
+    if !parts.vacant() {
+        return None;
+    }
+    let v = part_reference(first, counts.positions)?;
+    let vt = part_reference(second, counts.textures)?;
+    let vn = part_reference(third, counts.normals)?;
+    Some(VertexIndices { v, vt, vn })
 }
 
 // What a part refers to in a list of so many; an absent part is as an empty one.

@@ -90,11 +90,11 @@ fn line(kind: u8, answer: Answer, mesh: &Mesh) -> Line
         Ok(Reply::Exported(..)) => {
             let lists = mesh.lists();
             Some(Size {
-                indices: lists.indices.len(),
-                positions: lists.positions.len(),
+                indices: lists.indices.len() as u32,
+                positions: lists.positions.len() as u32,
             })
         }
         _ => None,
     };
-    Line { kind, answer, size }
+    Line { kind, size, answer }
 }

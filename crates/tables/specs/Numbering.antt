@@ -24,7 +24,7 @@ pub record Stopped (cap : ℕ) (xs : List (List ℕ)) (out out' : List ℕ) (i :
 
 abbrev pub Each : {K U : Type 0} → (K → List ℕ) → ℕ → List K → List (List ℕ) → List ℕ → List ℕ → Result U Unnumbered → Type 0
 Each f cap vs ks out out' (Ok u) = AllNumbered cap (map f vs) ks out out'
-Each f cap vs ks out out' (Err Short) = (length out < length vs) × (out' ≡ out)
+Each f cap vs ks out out' (Err Short) = (length out < length vs) × (ks ≡ []) × (out' ≡ out)
 Each f cap vs ks out out' (Err (Full i)) = Stopped cap (map f vs) out out' i
 
 abbrev pub Numbered : {K U : Type 0} → (K → List ℕ) → ℕ → List K → List (List ℕ) → List ℕ → List ℕ → Result U Unnumbered → Type 0

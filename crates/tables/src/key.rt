@@ -62,7 +62,10 @@ impl Key for Point {
     ghost digest = { digested };
 
     fn same(&self, other: &Self) -> bool {
-        self.bits() == other.bits() // so that 0 and -0 differ
+        // by bits, so that 0 and -0 differ; one by one, since whole arrays take longer to compare
+        let [x, y, z] = self.bits();
+        let [a, b, c] = other.bits();
+        x == a && y == b && z == c
     }
 
     fn hash(&self) -> u64 {

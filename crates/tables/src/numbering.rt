@@ -38,7 +38,8 @@ pub fn number_all<T: CornerTable<K>, K: Key>(
     ensures numbered { Numbered K.Key.meaning (T.CornerTable.capacity table.old) keys.now (T.CornerTable.keys table.new) out.old out.new result }
 {
     let numbered = number_each(table, keys, out);
-    if numbered.is_err() {
+    // where there are too few cells, no key was entered
+    if let Err(Unnumbered::Full(_)) = numbered {
         table.empty();
     }
     numbered

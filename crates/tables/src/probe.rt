@@ -39,9 +39,10 @@ fn scan<K: Key>(keys: &[K], slots: &[u32], from: usize, to: usize, key: &K) -> P
     ensures { Scanned (K.Key.meaning key.now) (map K.Key.meaning keys.now) slots.now from to result }
 {
     for (i, slot) in slots[from..to].iter().enumerate() {
-        let Some(place) = slot.checked_sub(1) else {
+        if *slot == 0 {
             return Probe::Free(from + i);
-        };
+        }
+        let place = *slot - 1;
         // In a sound table a place always has its key; in any other the walk goes on.
         if keys.get(place as usize).is_some_and(|held| held.same(key)) {
             return Probe::Found(place);

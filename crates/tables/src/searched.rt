@@ -1,7 +1,9 @@
-ghost use Rattle.std.specs.Prelude.{◌≡◌, ℕ, min, List, [], length};
-ghost use Rattle.elements.specs.Cells.{room_of};
+ghost use Rattle.std.specs.Prelude.{◌≡◌, ℕ, ◌≤◌, min, List, [], map, length, take};
+ghost use Rattle.elements.specs.Cells.{most, room_of};
 ghost use Rattle.elements.specs.Rows.{room};
+ghost use Rattle.elements.specs.First.{Apart};
 ghost use Rattle.tables.specs.Searching.{meanings, Searched};
+ghost use Rattle.tables.specs.Tables.{Found};
 
 use crate::key::Key;
 use crate::table::{CornerTable, add};
@@ -38,11 +40,7 @@ impl<K: Key> CornerTable<K> for SearchedTable<K> {
     }
 
     fn find(&self, key: &K) -> Option<u32> {
-        self.held
-            .as_slice()
-            .iter()
-            .position(|held| held.same(key))
-            .map(|i| i as u32)
+        search(&self.held.cells, self.held.count, key)
     }
 
     fn enter(&mut self, key: K) -> Option<u32> {
@@ -51,4 +49,15 @@ impl<K: Key> CornerTable<K> for SearchedTable<K> {
             found => found,
         }
     }
+}
+
+// The place of the key among the first `count` cells, looked for from the front.
+fn search<K: Key>(cells: &[K], count: usize, key: &K) -> Option<u32>
+    requires { (count ≤ length cells.now) × (count ≤ most) }
+    ensures { Apart (map K.Key.meaning (take count cells.now)) → Found (K.Key.meaning key.now) (map K.Key.meaning (take count cells.now)) result }
+{
+    cells[..count]
+        .iter()
+        .position(|held| held.same(key))
+        .map(|i| i as u32)
 }

@@ -1,4 +1,4 @@
-use Rattle.std.proofs.Common.{◌≡◌, ◌-◌, ◌<◌, length, Some, None, arith}
+use Rattle.std.proofs.Common.{◌≡◌, ◌-◌, ◌<◌, length, Some, None, rules, arith}
 use Rattle.std.specs.List.{slice_get}
 use Rattle.elements.specs.Rows.{items}
 use Rattle.mesh.proofs.MultiFacts.{found_looked, first_looked, again_looked}
@@ -13,18 +13,12 @@ pub returns-in-Some : goal.returns-in-Some
 returns-in-Some g c =
     let here : 0 < c.args.elements.now.count = omega arith in
     let ns = items c.args.numbers.now in
-    let told = c.in-Some.ensures in
-    let value = c.last.ensures.value in
-    let lent = c.as_slice.ensures in
-    let last : slice_get ns (length ns - 1) ≡ Some c.in-Some.number = cc in
+    let last : slice_get ns (length ns - 1) ≡ Some c.in-Some.number = search rules in
     again_looked c.args.elements.now c.args.numbers.now c.args.reference here c.if-reference-ne-MISSING_INDEX.false c.in-Some.number last
 
 pub returns-in-None : goal.returns-in-None
 returns-in-None g c =
     let here : 0 < c.args.elements.now.count = omega arith in
     let ns = items c.args.numbers.now in
-    let told = c.in-None.ensures in
-    let value = c.last.ensures.value in
-    let lent = c.as_slice.ensures in
-    let none : slice_get ns (length ns - 1) ≡ None = cc in
+    let none : slice_get ns (length ns - 1) ≡ None = search rules in
     first_looked c.args.elements.now c.args.numbers.now c.args.reference here c.if-reference-ne-MISSING_INDEX.false c.element-in-None.result none c.element-in-None.ensures
